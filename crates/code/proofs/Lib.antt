@@ -1,0 +1,10 @@
+pub mod Below
+pub mod Answering
+pub mod Rows
+pub mod Once
+pub mod Spans
+pub mod Alone
+pub mod Members
+pub mod Numbering
+pub mod Spelt
+pub mod Scores

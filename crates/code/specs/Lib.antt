@@ -1,0 +1,6 @@
+pub mod Messages
+pub mod Meaning
+pub mod Score
+pub mod Rule
+pub mod Answers
+pub mod Rising

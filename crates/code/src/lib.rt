@@ -1,0 +1,14 @@
+// What a code is, and what listing by it means.
+mod messages;
+mod score;
+mod sheets;
+mod theorems;
+mod traits;
+
+pub use messages::is_row;
+pub use messages::number_of;
+pub use messages::spell;
+pub use score::hits;
+pub use sheets::is_sheet;
+pub use theorems::lists_rise;
+pub use traits::Code;
