@@ -41,10 +41,7 @@ every-push f (y ∷ xs) x e h = let a = and-parts (f y) (every f xs) e in and-fr
 pub every-more : {X Y : Type 0} (f : Y → Bool) (g : X → Y) (xs : List X) (i : ℕ) (d : X) → i < length xs → every f (map g (take i xs)) ≡ true → f (g (getD xs i d)) ≡ true → every f (map g (take (i + 1) xs)) ≡ true
 every-more f g xs i d h e k = ap (λ z. every f (map g z)) (take-more xs i d h) ∙ ap (every f) (map-append g (take i xs) (getD xs i d ∷ [])) ∙ every-push f (map g (take i xs)) (g (getD xs i d)) e k
 
-every-broken-at : {X Y : Type 0} (f : Y → Bool) (g : X → Y) (xs : List X) (i : ℕ) (d : X) → i < length xs → f (g (getD xs i d)) ≡ false → every f (map g xs) ≡ false
-every-broken-at f g [] i d h e = absurd (omega arith)
-every-broken-at f g (x ∷ xs) zero d h e = and-left _ _ e
-every-broken-at f g (x ∷ xs) (suc i) d h e = and-right _ _ (every-broken-at f g xs i d (omega arith) e)
-
-pub every-broken : {X Y : Type 0} (f : Y → Bool) (g : X → Y) (b : Bool) (xs : List X) (i : ℕ) (d : X) → i < length xs → f (g (getD xs i d)) ≡ false → false ≡ (b && every f (map g xs))
-every-broken f g b xs i d h e = sym (and-right b _ (every-broken-at f g xs i d h e))
+pub every-broken : {X Y : Type 0} (f : Y → Bool) (g : X → Y) (xs : List X) (i : ℕ) (d : X) → i < length xs → f (g (getD xs i d)) ≡ false → false ≡ every f (map g xs)
+every-broken f g [] i d h e = absurd (omega arith)
+every-broken f g (x ∷ xs) zero d h e = sym (and-left _ _ e)
+every-broken f g (x ∷ xs) (suc i) d h e = sym (and-right _ _ (sym (every-broken f g xs i d (omega arith) e)))

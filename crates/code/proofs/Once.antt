@@ -13,7 +13,7 @@ use Rattle.code.specs.Meaning.{Meaning, listing}
 use Rattle.sheet.specs.Letters.{Sheet}
 use Rattle.code.specs.Messages.{every, isRow, each, span, messages}
 use Rattle.code.proofs.Rows.{every-append, every-kept}
-use Rattle.code.specs.Rising.{less, rising, same, occurs, Messages-once, Listings-once}
+use Rattle.code.specs.Rising.{less, rising, same, occurs}
 
 every-weak : {X : Type 0} (f g : X → Bool) → ((x : X) → f x ≡ true → g x ≡ true) → (xs : List X) → every f xs ≡ true → every g xs ≡ true
 every-weak f g h [] e = refl
@@ -68,7 +68,7 @@ blocks-rise L h s (suc i) =
     (every-map-all (λ x. every (less x) (each (λ a. map (λ m. a ∷ m) L) (span (suc s) i))) (λ m. s ∷ m)
       (λ m. every-weak (from-letter (suc s)) (less (s ∷ m)) (less-from s m) (each (λ a. map (λ m. a ∷ m) L) (span (suc s) i)) (blocks-from L (suc s) (suc s) i (omega arith))) L)
 
-messages-rise : (p k : ℕ) → rising (messages p k) ≡ true
+pub messages-rise : (p k : ℕ) → rising (messages p k) ≡ true
 unfolding messages blocks
 messages-rise p zero = refl
 messages-rise p (suc k) = blocks-rise (messages p k) (messages-rise p k) 0 p
@@ -134,14 +134,14 @@ row-cons n k b p r h =
 row-none : (n k b p : ℕ) (r : Bool) → p ≤ b → (eqb n k && (ltb b p && r)) ≡ false
 row-none n k b p r h = and-right (eqb n k) _ (and-left (ltb b p) r (le-ltb b p h))
 
-messages-occur : (p k : ℕ) (x : List ℕ) → occurs x (messages p k) ≡ cond (isRow k p x) 1 0
+pub messages-once : (p k : ℕ) (x : List ℕ) → occurs x (messages p k) ≡ cond (isRow k p x) 1 0
 unfolding messages blocks
-messages-occur p zero [] = refl
-messages-occur p zero (b ∷ x) = sym (ap (λ z. cond z 1 0) (and-left (eqb (suc (length x)) 0) _ (ne-eqb (suc (length x)) 0 (λ e. omega arith))))
-messages-occur p (suc k) [] = no-empty-blocks (messages p k) 0 p ∙ sym (ap (λ z. cond z 1 0) (and-left (eqb 0 (suc k)) _ (ne-eqb 0 (suc k) (λ e. omega arith))))
-messages-occur p (suc k) (b ∷ x) =
+messages-once p zero [] = refl
+messages-once p zero (b ∷ x) = sym (ap (λ z. cond z 1 0) (and-left (eqb (suc (length x)) 0) _ (ne-eqb (suc (length x)) 0 (λ e. omega arith))))
+messages-once p (suc k) [] = no-empty-blocks (messages p k) 0 p ∙ sym (ap (λ z. cond z 1 0) (and-left (eqb 0 (suc k)) _ (ne-eqb 0 (suc k) (λ e. omega arith))))
+messages-once p (suc k) (b ∷ x) =
     ⊎-elim
-    (λ lt. occurs-block b x (messages p k) 0 p (omega arith) (omega arith) ∙ messages-occur p k x ∙ ap (λ z. cond z 1 0) (row-cons (length x) k b p (every (λ l. ltb l p) x) lt))
+    (λ lt. occurs-block b x (messages p k) 0 p (omega arith) (omega arith) ∙ messages-once p k x ∙ ap (λ z. cond z 1 0) (row-cons (length x) k b p (every (λ l. ltb l p) x) lt))
     (λ le. occurs-before b x (messages p k) 0 p (inr (omega arith)) ∙ sym (ap (λ z. cond z 1 0) (row-none (suc (length x)) (suc k) b p (every (λ l. ltb l p) x) le)))
     (cases-lt b p)
 
@@ -188,14 +188,13 @@ both true false = refl
 both false true = refl
 both false false = refl
 
-pub messages-once : Messages-once
-messages-once p k = (messages-rise p k, messages-occur p k)
-
-pub listings-once : Listings-once
+pub listing-rises : (m : Meaning) (s : Sheet) (t : ℕ) → rising (listing m s t) ≡ true
 unfolding listing
-listings-once m s t =
-    let f : List ℕ → Bool = λ x. leb t (m .score s x) in
-    (
-      kept-rise f (messages (m .p) (m .k)) (messages-rise (m .p) (m .k)),
-      λ x. kept-occur f x (messages (m .p) (m .k)) ∙ ap (λ z. cond (f x) z 0) (messages-occur (m .p) (m .k) x) ∙ both (isRow (m .k) (m .p) x) (f x),
-    )
+listing-rises m s t = kept-rise (λ x. leb t (m .score s x)) (messages (m .p) (m .k)) (messages-rise (m .p) (m .k))
+
+pub listing-once : (m : Meaning) (s : Sheet) (t : ℕ) (x : List ℕ) → occurs x (listing m s t) ≡ cond (isRow (m .k) (m .p) x && leb t (m .score s x)) 1 0
+unfolding listing
+listing-once m s t x =
+    kept-occur (λ x. leb t (m .score s x)) x (messages (m .p) (m .k))
+    ∙ ap (λ z. cond (leb t (m .score s x)) z 0) (messages-once (m .p) (m .k) x)
+    ∙ both (isRow (m .k) (m .p) x) (leb t (m .score s x))

@@ -13,15 +13,22 @@ abbrev pub Inside : ℕ → Verdict → Type 0
 Inside n within = Unit {0}
 Inside n (beyond level place) = place < n
 
+-- the most places of a code, and letters of a message; both may grow
+abbrev pub places-limit : ℕ
+places-limit = 240
+
+abbrev pub dimension-limit : ℕ
+dimension-limit = 16
+
 pub record Sizes (m : Meaning) : Type 0 where
   pub q-low : 1 ≤ m .q
   pub q-high : m .q ≤ 256
   pub n-low : 1 ≤ m .n
-  pub n-high : m .n ≤ 240
+  pub n-high : m .n ≤ places-limit
   pub p-low : 1 ≤ m .p
   pub p-high : m .p ≤ 256
   pub k-low : 1 ≤ m .k
-  pub k-high : m .k ≤ 16
+  pub k-high : m .k ≤ dimension-limit
   pub least-low : 1 ≤ m .least
   pub least-top : m .least ≤ m .top
 

@@ -4,8 +4,8 @@ ghost use Rattle.sheet.specs.Standing.{sheet-of};
 ghost use Rattle.code.specs.Score.{hits};
 use sheet::Marks;
 
-// How many places of the sheet hold the word's letter.
-pub fn hits(sheet: &[Marks], word: &[u8]) -> usize
+// Goes through the places that both have.
+fn agreements(sheet: &[Marks], word: &[u8]) -> usize
     ensures { λ r. ⌜ r ≡ hits (sheet-of (now (sheet .entry))) (now (word .entry)) ⌝ }
 {
     let n = sheet.len().min(word.len());
@@ -16,4 +16,11 @@ pub fn hits(sheet: &[Marks], word: &[u8]) -> usize
         }
     }
     sum
+}
+
+// How many places of the sheet hold the word's letter.
+pub fn hits(sheet: &[Marks], word: &[u8]) -> usize
+    ensures { λ r. ⌜ r ≡ hits (sheet-of (now (sheet .entry))) (now (word .entry)) ⌝ }
+{
+    agreements(sheet, word)
 }

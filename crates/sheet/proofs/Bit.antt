@@ -14,8 +14,7 @@ use Rattle.std.proofs.shelf.Tests.{eq-eqb, ne-eqb, cases-order, cases-eq}
 use Rattle.std.proofs.shelf.Lists.{getD-set-same, getD-set-other, getD-past}
 use Rattle.std.proofs.shelf.Bits.{pow-pos}
 use Rattle.sheet.specs.Letters.{Letters, none, join, union}
-use Rattle.sheet.specs.Standing.{stands}
-use Rattle.sheet.specs.declared.marks.Marks.{Marks}
+use Rattle.sheet.specs.Standing.{marked}
 
 abbrev pub bit : ℕ → ℕ → ℕ
 bit w i = w / 2 ^ i % 2
@@ -27,9 +26,9 @@ zeros (suc (suc zero)) = refl
 zeros (suc (suc (suc zero))) = refl
 zeros (suc (suc (suc (suc i)))) = refl
 
-pub new-none : stands (record { words = 0 ∷ 0 ∷ 0 ∷ 0 ∷ [] }) ≡ none
-unfolding stands
-new-none = fun-ext (λ l. ap (λ w. eqb (w / 2 ^ (l % 64) % 2) 1) (zeros (l / 64)) ∙ ap (λ w. eqb (w % 2) 1) (zero-div (2 ^ (l % 64))))
+pub clear-none : marked (0 ∷ 0 ∷ 0 ∷ 0 ∷ []) ≡ none
+unfolding marked
+clear-none = fun-ext (λ l. ap (λ w. eqb (w / 2 ^ (l % 64) % 2) 1) (zeros (l / 64)) ∙ ap (λ w. eqb (w % 2) 1) (zero-div (2 ^ (l % 64))))
 
 -- the bits of 2 ^ k
 one-same : (k : ℕ) → bit (2 ^ k) k ≡ 1
@@ -92,14 +91,13 @@ module _ (words : List ℕ) (l : ℕ) (inside : l / 64 < length words) where
       (λ d. ap (λ w. bit w (j % 64)) (getD-set-other words (l / 64) (j / 64) _ 0 d))
       (cases-eq (j / 64) (l / 64))
 
-  pub inserted : (m : Marks) → m .words ≡ words → (n : Marks) → n .words ≡ changed → stands n ≡ join l (stands m)
-  unfolding stands
-  inserted m em n en =
+  pub inserted : marked changed ≡ join l (marked words)
+  unfolding marked
+  inserted =
       fun-ext (λ j.
-        ap (λ ws. eqb (bit (getD ws (j / 64) 0) (j % 64)) 1) en ∙
         ⊎-elim
         (λ e. ap (λ b. eqb b 1) (here j e) ∙ or-true (eqb j l) _ (eq-eqb j l e))
-        (λ ne. ap (λ b. eqb b 1) (there j ne) ∙ ap (λ ws. eqb (bit (getD ws (j / 64) 0) (j % 64)) 1) (sym em) ∙ or-false (eqb j l) _ (ne-eqb j l ne))
+        (λ ne. ap (λ b. eqb b 1) (there j ne) ∙ or-false (eqb j l) _ (ne-eqb j l ne))
         (cases-eq j l))
 
 -- word by word, the words of a union
@@ -120,13 +118,11 @@ either-bit (suc zero) (suc zero) h k = refl
 either-bit (suc zero) (suc (suc y)) h k = absurd (omega arith)
 either-bit (suc (suc x)) y h k = absurd (omega arith)
 
-pub united : (m n r : Marks) → length (m .words) ≡ 4 → length (n .words) ≡ 4
-  → r .words ≡ bitOr (getD (m .words) 0 0) (getD (n .words) 0 0) ∷ bitOr (getD (m .words) 1 0) (getD (n .words) 1 0) ∷ bitOr (getD (m .words) 2 0) (getD (n .words) 2 0) ∷ bitOr (getD (m .words) 3 0) (getD (n .words) 3 0) ∷ []
-  → stands r ≡ union (stands m) (stands n)
-unfolding stands
-united m n r hm hn e =
+pub united : (u v : List ℕ) → length u ≡ 4 → length v ≡ 4
+  → marked (bitOr (getD u 0 0) (getD v 0 0) ∷ bitOr (getD u 1 0) (getD v 1 0) ∷ bitOr (getD u 2 0) (getD v 2 0) ∷ bitOr (getD u 3 0) (getD v 3 0) ∷ []) ≡ union (marked u) (marked v)
+unfolding marked
+united u v hu hv =
     fun-ext (λ l.
-      ap (λ ws. eqb (bit (getD ws (l / 64) 0) (l % 64)) 1) e
-      ∙ ap (λ w. eqb (bit w (l % 64)) 1) (four-or (m .words) (n .words) hm hn (l / 64))
-      ∙ ap (λ b. eqb b 1) (bit-or (getD (m .words) (l / 64) 0) (getD (n .words) (l / 64) 0) (l % 64))
-      ∙ either-bit (bit (getD (m .words) (l / 64) 0) (l % 64)) (bit (getD (n .words) (l / 64) 0) (l % 64)) (mod-lt _ (lit< tt)) (mod-lt _ (lit< tt)))
+      ap (λ w. eqb (bit w (l % 64)) 1) (four-or u v hu hv (l / 64))
+      ∙ ap (λ b. eqb b 1) (bit-or (getD u (l / 64) 0) (getD v (l / 64) 0) (l % 64))
+      ∙ either-bit (bit (getD u (l / 64) 0) (l % 64)) (bit (getD v (l / 64) 0) (l % 64)) (mod-lt _ (lit< tt)) (mod-lt _ (lit< tt)))

@@ -19,7 +19,7 @@ use Rattle.sheet.specs.Letters.{Letters, tally, size}
 use Rattle.std.specs.shelf.Lists.{sumBy}
 use Rattle.std.proofs.shelf.Lists.{take-more, map-append}
 use Rattle.std.proofs.shelf.Sums.{sumBy-push}
-use Rattle.sheet.specs.Standing.{stands, total}
+use Rattle.sheet.specs.Standing.{marked, stands, total}
 use Rattle.sheet.specs.declared.marks.Marks.{Marks}
 
 ones-bit : (a : ℕ) → a < 2 → ones a ≡ cond (eqb a 1) 1 0
@@ -51,12 +51,12 @@ tally-add s a (suc n) =
     ap (tally s) (add-suc a n) ∙ ap (λ x. cond (s (a + n)) 1 0 + x) (tally-add s a n) ∙ sym (add-assoc (cond (s (a + n)) 1 0) _ _)
 
 -- the letters of one word
-word : (m : Marks) (j : ℕ) → getD (m .words) j 0 < 2 ^ 64 → tally (λ i. stands m (j * 64 + i)) 64 ≡ ones (getD (m .words) j 0)
-unfolding stands
-word m j h =
-    tally-ext _ (λ i. eqb (getD (m .words) j 0 / 2 ^ i % 2) 1) 64
-    (λ i lt. ap (λ x. eqb (getD (m .words) x 0 / 2 ^ ((j * 64 + i) % 64) % 2) 1) (digits-div j lt) ∙ ap (λ x. eqb (getD (m .words) j 0 / 2 ^ x % 2) 1) (digits-mod j lt))
-    ∙ tally-ones (getD (m .words) j 0) 64 ∙ ap ones (mod-eq-of-lt h)
+word : (ws : List ℕ) (j : ℕ) → getD ws j 0 < 2 ^ 64 → tally (λ i. marked ws (j * 64 + i)) 64 ≡ ones (getD ws j 0)
+unfolding marked
+word ws j h =
+    tally-ext _ (λ i. eqb (getD ws j 0 / 2 ^ i % 2) 1) 64
+    (λ i lt. ap (λ x. eqb (getD ws x 0 / 2 ^ ((j * 64 + i) % 64) % 2) 1) (digits-div j lt) ∙ ap (λ x. eqb (getD ws j 0 / 2 ^ x % 2) 1) (digits-mod j lt))
+    ∙ tally-ones (getD ws j 0) 64 ∙ ap ones (mod-eq-of-lt h)
 
 one-at-most : (b : Bool) → cond b 1 0 ≤ 1
 one-at-most true = omega arith
@@ -69,42 +69,10 @@ tally-none s = refl
 four : (a b c d z t1 t2 t3 t4 : ℕ) {a' b' c' d' : ℕ} → a ≡ a' → b ≡ b' → c ≡ c' → d ≡ d' → z ≡ 0 → t1 ≡ a' + z → t2 ≡ b' + t1 → t3 ≡ c' + t2 → t4 ≡ d' + t3 → a + b + c + d ≡ t4
 four a b c d z t1 t2 t3 t4 ea eb ec ed ez e1 e2 e3 e4 = omega arith
 
-module _ (m : Marks) (h0 : getD (m .words) 0 0 < 2 ^ 64) (h1 : getD (m .words) 1 0 < 2 ^ 64) (h2 : getD (m .words) 2 0 < 2 ^ 64) (h3 : getD (m .words) 3 0 < 2 ^ 64) where
-  pub size-ones : ones (getD (m .words) 0 0) + ones (getD (m .words) 1 0) + ones (getD (m .words) 2 0) + ones (getD (m .words) 3 0) ≡ size (stands m)
+module _ (ws : List ℕ) (h0 : getD ws 0 0 < 2 ^ 64) (h1 : getD ws 1 0 < 2 ^ 64) (h2 : getD ws 2 0 < 2 ^ 64) (h3 : getD ws 3 0 < 2 ^ 64) where
+  pub size-ones : ones (getD ws 0 0) + ones (getD ws 1 0) + ones (getD ws 2 0) + ones (getD ws 3 0) ≡ size (marked ws)
   unfolding size
-  size-ones = four _ _ _ _ _ _ _ _ _ (sym (word m 0 h0)) (sym (word m 1 h1)) (sym (word m 2 h2)) (sym (word m 3 h3)) (tally-none (stands m)) (tally-add (stands m) 0 64) (tally-add (stands m) 64 64) (tally-add (stands m) 128 64) (tally-add (stands m) 192 64)
-
-pub ones-zero : (k w : ℕ) → w < 2 ^ k → ones w ≡ 0 → w ≡ 0
-ones-zero zero w h e = lt-one h
-ones-zero (suc k) w h e =
-    let s = ones-step w in
-    let half : w / 2 ≡ 0 = ones-zero k (w / 2) (shr-below w k 1 (subst (λ x. w < 2 ^ x) (let f : suc k ≡ k + 1 = omega arith in f) h)) (omega arith) in
-    omega (arith, div-add-mod w 2)
-
-or-zero : (a b : ℕ) → bitOr a b ≡ 0 → (a ≡ 0) × (b ≡ 0)
-or-zero a b e = let s = or-add-and a b in let l = and-le-l a b in let r = and-le-r a b in (omega arith, omega arith)
-
-same-zero : (x y : ℕ) → (x ≡ 0 → y ≡ 0) → (y ≡ 0 → x ≡ 0) → eqb x 0 ≡ eqb y 0
-same-zero x y f g = ⊎-elim (λ e. eq-eqb x 0 e ∙ sym (eq-eqb y 0 (f e))) (λ ne. ne-eqb x 0 ne ∙ sym (ne-eqb y 0 (λ e. ne (g e)))) (cases-eq x 0)
-
-ones-of-zero : (w : ℕ) → w ≡ 0 → ones w ≡ 0
-unfolding ones
-ones-of-zero w e = ap ones e
-
-pub empty-words : (a b c d : ℕ) → a < 2 ^ 64 → b < 2 ^ 64 → c < 2 ^ 64 → d < 2 ^ 64 → eqb (bitOr (bitOr (bitOr a b) c) d) 0 ≡ eqb (ones a + ones b + ones c + ones d) 0
-empty-words a b c d ha hb hc hd =
-    same-zero _ _
-    (λ e.
-        let p = or-zero (bitOr (bitOr a b) c) d e in
-        let q = or-zero (bitOr a b) c (p .0) in
-        let r = or-zero a b (q .0) in
-        omega (arith, ones-of-zero a (r .0), ones-of-zero b (r .1), ones-of-zero c (q .1), ones-of-zero d (p .1)))
-    (λ e.
-        let za = ones-zero 64 a ha (omega arith) in
-        let zb = ones-zero 64 b hb (omega arith) in
-        let zc = ones-zero 64 c hc (omega arith) in
-        let zd = ones-zero 64 d hd (omega arith) in
-        ap (λ x. bitOr (bitOr (bitOr x b) c) d) za ∙ ap (λ x. bitOr (bitOr x c) d) zb ∙ ap (λ x. bitOr x d) zc ∙ zd)
+  size-ones = four _ _ _ _ _ _ _ _ _ (sym (word ws 0 h0)) (sym (word ws 1 h1)) (sym (word ws 2 h2)) (sym (word ws 3 h3)) (tally-none (marked ws)) (tally-add (marked ws) 0 64) (tally-add (marked ws) 64 64) (tally-add (marked ws) 128 64) (tally-add (marked ws) 192 64)
 
 tally-le : (s : Letters) (n : ℕ) → tally s n ≤ n
 unfolding tally

@@ -6,9 +6,12 @@ use lib.ListN.{getD}
 use Rattle.sheet.specs.Letters.{Letters, Sheet, weight}
 use Rattle.sheet.specs.declared.marks.Marks.{Marks}
 
--- letter l is bit l % 64 of word l / 64
-unfoldable pub stands : Marks → Letters
-stands m = λ l. eqb (getD (m .words) (l / 64) 0 / 2 ^ (l % 64) % 2) 1
+-- the set that words of 64 marks hold: letter l is bit l % 64 of word l / 64
+unfoldable pub marked : List ℕ → Letters
+marked ws = λ l. eqb (getD ws (l / 64) 0 / 2 ^ (l % 64) % 2) 1
+
+abbrev pub stands : Marks → Letters
+stands m = marked (m .words)
 
 -- a slice of marks as a sheet
 abbrev pub sheet-of : List Marks → Sheet
