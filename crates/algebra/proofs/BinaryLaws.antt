@@ -39,7 +39,7 @@ module _ (m g : ℕ) (bounds : T (bounds-test m)) (below : T (below-test m g)) (
 
   x-below : (u : ℕ) → u < 2 ^ m → times-x m g u < 2 ^ m
   x-below u hu =
-    by-bits (λ x. times-x m g x < 2 ^ m) m x-zero
+      by-bits (λ x. times-x m g x < 2 ^ m) m x-zero
       (λ i hi. ltb→lt _ _ (below-at (λ i. ltb (times-x m g (2 ^ i)) (2 ^ m)) m below i hi))
       (λ x y hx hy. subst (λ z. z < 2 ^ m) (sym (x-linear m g x y)) (xor-lt m _ _ hx hy))
       u hu
@@ -53,33 +53,33 @@ module _ (m g : ℕ) (bounds : T (bounds-test m)) (below : T (below-test m g)) (
 
   -- two maps that keep sums and agree at single bits agree
   agree : (f h : ℕ → ℕ) → f 0 ≡ h 0 → ((i : ℕ) → i < m → f (2 ^ i) ≡ h (2 ^ i))
-    → ((x y : ℕ) → f (bitXor x y) ≡ bitXor (f x) (f y)) → ((x y : ℕ) → h (bitXor x y) ≡ bitXor (h x) (h y))
-    → (a : ℕ) → a < 2 ^ m → f a ≡ h a
+      → ((x y : ℕ) → f (bitXor x y) ≡ bitXor (f x) (f y)) → ((x y : ℕ) → h (bitXor x y) ≡ bitXor (h x) (h y))
+      → (a : ℕ) → a < 2 ^ m → f a ≡ h a
   agree f h z s lf lh =
-    by-bits (λ x. f x ≡ h x) m z s
+      by-bits (λ x. f x ≡ h x) m z s
       (λ x y ex ey. lf x y ∙ ap (λ u. bitXor u (f y)) ex ∙ ap (bitXor (h x)) ey ∙ sym (lh x y))
 
   mul-one : (a : ℕ) → a < 2 ^ m → times m g m a 1 ≡ a
   mul-one = agree (λ a. times m g m a 1) (λ a. a) (left-zero 1)
-    (λ i hi. eqb→eq _ _ (below-at (λ i. eqb (times m g m (2 ^ i) 1) (2 ^ i)) m one i hi))
-    (λ x y. left-linear m g m x y 1) (λ x y. refl)
+      (λ i hi. eqb→eq _ _ (below-at (λ i. eqb (times m g m (2 ^ i) 1) (2 ^ i)) m one i hi))
+      (λ x y. left-linear m g m x y 1) (λ x y. refl)
 
   mul-comm : (a b : ℕ) → a < 2 ^ m → b < 2 ^ m → times m g m a b ≡ times m g m b a
   mul-comm a b ha hb =
-    agree (λ x. times m g m x b) (λ x. times m g m b x) (left-zero b ∙ sym (right-zero b))
+      agree (λ x. times m g m x b) (λ x. times m g m b x) (left-zero b ∙ sym (right-zero b))
       (λ i hi. agree (λ y. times m g m (2 ^ i) y) (λ y. times m g m y (2 ^ i)) (right-zero (2 ^ i) ∙ sym (left-zero (2 ^ i)))
-        (λ j hj. eqb→eq _ _ (below-at (λ j. eqb (times m g m (2 ^ i) (2 ^ j)) (times m g m (2 ^ j) (2 ^ i))) m
-          (below-at (λ i. all-below (λ j. eqb (times m g m (2 ^ i) (2 ^ j)) (times m g m (2 ^ j) (2 ^ i))) m) m comm i hi) j hj))
-        (right-linear m g m (2 ^ i)) (λ x y. left-linear m g m x y (2 ^ i)) b hb)
+      (λ j hj. eqb→eq _ _ (below-at (λ j. eqb (times m g m (2 ^ i) (2 ^ j)) (times m g m (2 ^ j) (2 ^ i))) m
+      (below-at (λ i. all-below (λ j. eqb (times m g m (2 ^ i) (2 ^ j)) (times m g m (2 ^ j) (2 ^ i))) m) m comm i hi) j hj))
+      (right-linear m g m (2 ^ i)) (λ x y. left-linear m g m x y (2 ^ i)) b hb)
       (λ x y. left-linear m g m x y b) (right-linear m g m b)
       a ha
 
   bits-assoc : (i j k : ℕ) → i < m → j < m → k < m → times m g m (times m g m (2 ^ i) (2 ^ j)) (2 ^ k) ≡ times m g m (2 ^ i) (times m g m (2 ^ j) (2 ^ k))
   bits-assoc i j k hi hj hk =
-    eqb→eq _ _
-    (below-at (λ k. eqb (times m g m (times m g m (2 ^ i) (2 ^ j)) (2 ^ k)) (times m g m (2 ^ i) (times m g m (2 ^ j) (2 ^ k)))) m
-    (below-at (λ j. all-below (λ k. eqb (times m g m (times m g m (2 ^ i) (2 ^ j)) (2 ^ k)) (times m g m (2 ^ i) (times m g m (2 ^ j) (2 ^ k)))) m) m
-    (below-at (λ i. all-below (λ j. all-below (λ k. eqb (times m g m (times m g m (2 ^ i) (2 ^ j)) (2 ^ k)) (times m g m (2 ^ i) (times m g m (2 ^ j) (2 ^ k)))) m) m) m assoc i hi) j hj) k hk)
+      eqb→eq _ _
+      (below-at (λ k. eqb (times m g m (times m g m (2 ^ i) (2 ^ j)) (2 ^ k)) (times m g m (2 ^ i) (times m g m (2 ^ j) (2 ^ k)))) m
+      (below-at (λ j. all-below (λ k. eqb (times m g m (times m g m (2 ^ i) (2 ^ j)) (2 ^ k)) (times m g m (2 ^ i) (times m g m (2 ^ j) (2 ^ k)))) m) m
+      (below-at (λ i. all-below (λ j. all-below (λ k. eqb (times m g m (times m g m (2 ^ i) (2 ^ j)) (2 ^ k)) (times m g m (2 ^ i) (times m g m (2 ^ j) (2 ^ k)))) m) m) m assoc i hi) j hj) k hk)
 
   -- three factors: a sum in the first, the second or the third
   first-sum : (b c x y : ℕ) → times m g m (times m g m (bitXor x y) b) c ≡ bitXor (times m g m (times m g m x b) c) (times m g m (times m g m y b) c)
@@ -96,15 +96,15 @@ module _ (m g : ℕ) (bounds : T (bounds-test m)) (below : T (below-test m g)) (
 
   mul-assoc : (a b c : ℕ) → a < 2 ^ m → b < 2 ^ m → c < 2 ^ m → times m g m (times m g m a b) c ≡ times m g m a (times m g m b c)
   mul-assoc a b c ha hb hc =
-    agree (λ x. times m g m (times m g m x b) c) (λ x. times m g m x (times m g m b c))
+      agree (λ x. times m g m (times m g m x b) c) (λ x. times m g m x (times m g m b c))
       (ap (λ z. times m g m z c) (left-zero b) ∙ left-zero c ∙ sym (left-zero (times m g m b c)))
       (λ i hi. agree (λ y. times m g m (times m g m (2 ^ i) y) c) (λ y. times m g m (2 ^ i) (times m g m y c))
-        (ap (λ z. times m g m z c) (right-zero (2 ^ i)) ∙ left-zero c ∙ sym (ap (times m g m (2 ^ i)) (left-zero c) ∙ right-zero (2 ^ i)))
-        (λ j hj. agree (λ z. times m g m (times m g m (2 ^ i) (2 ^ j)) z) (λ z. times m g m (2 ^ i) (times m g m (2 ^ j) z))
-          (right-zero (times m g m (2 ^ i) (2 ^ j)) ∙ sym (ap (times m g m (2 ^ i)) (right-zero (2 ^ j)) ∙ right-zero (2 ^ i)))
-          (λ k hk. bits-assoc i j k hi hj hk)
-          (right-linear m g m (times m g m (2 ^ i) (2 ^ j))) (third-sum (2 ^ i) (2 ^ j)) c hc)
-        (second-sum-l (2 ^ i) c) (second-sum-r (2 ^ i) c) b hb)
+      (ap (λ z. times m g m z c) (right-zero (2 ^ i)) ∙ left-zero c ∙ sym (ap (times m g m (2 ^ i)) (left-zero c) ∙ right-zero (2 ^ i)))
+      (λ j hj. agree (λ z. times m g m (times m g m (2 ^ i) (2 ^ j)) z) (λ z. times m g m (2 ^ i) (times m g m (2 ^ j) z))
+      (right-zero (times m g m (2 ^ i) (2 ^ j)) ∙ sym (ap (times m g m (2 ^ i)) (right-zero (2 ^ j)) ∙ right-zero (2 ^ i)))
+      (λ k hk. bits-assoc i j k hi hj hk)
+      (right-linear m g m (times m g m (2 ^ i) (2 ^ j))) (third-sum (2 ^ i) (2 ^ j)) c hc)
+      (second-sum-l (2 ^ i) c) (second-sum-r (2 ^ i) c) b hb)
       (first-sum b c) (λ x y. left-linear m g m x y (times m g m b c))
       a ha
 
@@ -116,10 +116,12 @@ module _ (m g : ℕ) (bounds : T (bounds-test m)) (below : T (below-test m g)) (
   powers-below (suc n) s made hs hm = powers-below n _ _ (mul-below s s hs hs) (mul-below made _ hm (mul-below s s hs hs))
 
   inverse-of : (a : ℕ) → 0 < a → a < 2 ^ m → (b : ℕ) × (b < 2 ^ m) × (times m g m a b ≡ 1)
-  inverse-of a z h =
-    (power m g a, powers-below (m - 1) a 1 h one-lt,
-     ⊎-elim (λ e. absurd (let q = eqb→eq a 0 e in omega arith)) (eqb→eq (times m g m a (power m g a)) 1)
-       (or-cases (eqb a 0) (eqb (times m g m a (power m g a)) 1) (below-at (λ a. eqb a 0 || eqb (times m g m a (power m g a)) 1) (2 ^ m) inverse a h)))
+  inverse-of a z h = (
+    power m g a,
+    powers-below (m - 1) a 1 h one-lt,
+    ⊎-elim (λ e. absurd (let q = eqb→eq a 0 e in omega arith)) (eqb→eq (times m g m a (power m g a)) 1)
+        (or-cases (eqb a 0) (eqb (times m g m a (power m g a)) 1) (below-at (λ a. eqb a 0 || eqb (times m g m a (power m g a)) 1) (2 ^ m) inverse a h)),
+  )
 
   codes : Codes (2 ^ m) bitXor bitXor (times m g m)
   codes = record {
@@ -142,23 +144,23 @@ module _ (m g : ℕ) (bounds : T (bounds-test m)) (below : T (below-test m g)) (
 
 pub binary-laws : (m : ℕ) → T (is-exponent m) → Laws (binary m)
 binary-laws m ok =
-  in-field (2 ^ m) bitXor bitXor (times m (modulus m) m)
+    in-field (2 ^ m) bitXor bitXor (times m (modulus m) m)
     (codes m (modulus m) (of-at bounds-test exponents bounds-pass m ok)
-      (of-at (λ m. below-test m (modulus m)) exponents below-pass m ok)
-      (of-at (λ m. one-test m (modulus m)) exponents one-pass m ok)
-      (of-at (λ m. comm-test m (modulus m)) exponents comm-pass m ok)
-      (of-at (λ m. assoc-test m (modulus m)) exponents assoc-pass m ok)
-      (of-at (λ m. inverse-test m (modulus m)) exponents inverse-pass m ok))
+    (of-at (λ m. below-test m (modulus m)) exponents below-pass m ok)
+    (of-at (λ m. one-test m (modulus m)) exponents one-pass m ok)
+    (of-at (λ m. comm-test m (modulus m)) exponents comm-pass m ok)
+    (of-at (λ m. assoc-test m (modulus m)) exponents assoc-pass m ok)
+    (of-at (λ m. inverse-test m (modulus m)) exponents inverse-pass m ok))
     2
 
 pub step-below : (m : ℕ) → T (is-exponent m) → (k a b : ℕ) → a < 2 ^ m → times m (modulus m) k a b < 2 ^ m
 step-below m ok =
-  some-below m (modulus m) (of-at bounds-test exponents bounds-pass m ok)
-      (of-at (λ m. below-test m (modulus m)) exponents below-pass m ok)
-      (of-at (λ m. one-test m (modulus m)) exponents one-pass m ok)
-      (of-at (λ m. comm-test m (modulus m)) exponents comm-pass m ok)
-      (of-at (λ m. assoc-test m (modulus m)) exponents assoc-pass m ok)
-      (of-at (λ m. inverse-test m (modulus m)) exponents inverse-pass m ok)
+    some-below m (modulus m) (of-at bounds-test exponents bounds-pass m ok)
+    (of-at (λ m. below-test m (modulus m)) exponents below-pass m ok)
+    (of-at (λ m. one-test m (modulus m)) exponents one-pass m ok)
+    (of-at (λ m. comm-test m (modulus m)) exponents comm-pass m ok)
+    (of-at (λ m. assoc-test m (modulus m)) exponents assoc-pass m ok)
+    (of-at (λ m. inverse-test m (modulus m)) exponents inverse-pass m ok)
 
 pub byte-size : (m : ℕ) → T (is-exponent m) → 2 ^ m ≤ 2 ^ 8
 byte-size m ok = binary-laws m ok .small

@@ -29,7 +29,7 @@ comm-test m g = all-below (λ i. all-below (λ j. eqb (times m g m (2 ^ i) (2 ^ 
 
 abbrev pub assoc-test : ℕ → ℕ → Bool
 assoc-test m g =
-  all-below (λ i. all-below (λ j. all-below (λ k.
+    all-below (λ i. all-below (λ j. all-below (λ k.
     eqb (times m g m (times m g m (2 ^ i) (2 ^ j)) (2 ^ k)) (times m g m (2 ^ i) (times m g m (2 ^ j) (2 ^ k)))) m) m) m
 
 abbrev pub inverse-test : ℕ → ℕ → Bool

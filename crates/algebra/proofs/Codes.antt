@@ -45,17 +45,17 @@ module _ (q : ℕ) (s d p : ℕ → ℕ → ℕ) (L : Codes q s d p) where
   zero-lt = let t = L .two in omega arith
 
   assoc : (f : ℕ → ℕ → ℕ) → ((a b : ℕ) → a < q → b < q → f a b < q)
-    → ((a b c : ℕ) → a < q → b < q → c < q → f (f a b) c ≡ f a (f b c))
-    → (a b c : ℕ) → f (read q (f (read q a) (read q b))) (read q c) ≡ f (read q a) (read q (f (read q b) (read q c)))
+      → ((a b c : ℕ) → a < q → b < q → c < q → f (f a b) c ≡ f a (f b c))
+      → (a b c : ℕ) → f (read q (f (read q a) (read q b))) (read q c) ≡ f (read q a) (read q (f (read q b) (read q c)))
   assoc f below law a b c =
-    ap (λ x. f x (read q c)) (read-below q _ (below _ _ (r-lt a) (r-lt b)))
-    ∙ law _ _ _ (r-lt a) (r-lt b) (r-lt c)
-    ∙ sym (ap (f (read q a)) (read-below q _ (below _ _ (r-lt b) (r-lt c))))
+      ap (λ x. f x (read q c)) (read-below q _ (below _ _ (r-lt a) (r-lt b)))
+      ∙ law _ _ _ (r-lt a) (r-lt b) (r-lt c)
+      ∙ sym (ap (f (read q a)) (read-below q _ (below _ _ (r-lt b) (r-lt c))))
 
   inverted : (a : ℕ) → 0 < a → a < q → p (read q a) (read q (first (λ b. eqb (p (read q a) (read q b)) 1) 0 q)) ≡ 1
   inverted a h ha =
-    let w = L .witness a h ha in
-    eqb→eq _ 1 (found (λ b. eqb (p (read q a) (read q b)) 1) 0 q (w .0) (omega arith) (omega (arith, zero-add q, w .1))
+      let w = L .witness a h ha in
+      eqb→eq _ 1 (found (λ b. eqb (p (read q a) (read q b)) 1) 0 q (w .0) (omega arith) (omega (arith, zero-add q, w .1))
       (T-of _ 1 (r-at p a (w .0) ha (w .1) ∙ w .2)))
 
   one-not-zero : (x : ℕ) → x ≡ 1 → x ≡ 0 → ⊥
@@ -80,14 +80,14 @@ module _ (q : ℕ) (s d p : ℕ → ℕ → ℕ) (L : Codes q s d p) where
     product-comm = λ a b ha hb. L .p-comm _ _ (r-lt a) (r-lt b);
     product-one = λ a ha. r-at p a 1 ha (L .two) ∙ L .p-one a ha;
     distributes = λ a b c _ _ _.
-      ap (p (read q a)) (read-below q _ (L .s-below _ _ (r-lt b) (r-lt c)))
-      ∙ L .dist _ _ _ (r-lt a) (r-lt b) (r-lt c)
-      ∙ sym (r-at s _ _ (L .p-below _ _ (r-lt a) (r-lt b)) (L .p-below _ _ (r-lt a) (r-lt c)));
+        ap (p (read q a)) (read-below q _ (L .s-below _ _ (r-lt b) (r-lt c)))
+        ∙ L .dist _ _ _ (r-lt a) (r-lt b) (r-lt c)
+        ∙ sym (r-at s _ _ (L .p-below _ _ (r-lt a) (r-lt b)) (L .p-below _ _ (r-lt a) (r-lt c)));
     difference-sum = λ a b ha hb.
-      ap (λ x. s x (read q b)) (read-below q _ (L .d-below _ _ (r-lt a) (r-lt b)))
-      ∙ L .d-s _ _ (r-lt a) (r-lt b) ∙ read-below q a ha;
+        ap (λ x. s x (read q b)) (read-below q _ (L .d-below _ _ (r-lt a) (r-lt b)))
+        ∙ L .d-s _ _ (r-lt a) (r-lt b) ∙ read-below q a ha;
     inverse-one = λ a h ha. inverted a h ha;
     inverse-zero =
-      none (λ b. eqb (p (read q 0) (read q b)) 1) 0 q
+        none (λ b. eqb (p (read q 0) (read q b)) 1) 0 q
         (λ w t. one-not-zero _ (eqb→eq (p (read q 0) (read q w)) 1 t) (ap (λ x. p x (read q w)) (read-below q 0 zero-lt) ∙ L .p-zero _ (r-lt w)));
   }

@@ -1,14 +1,12 @@
 -- The elements of a field as a type: the codes below its size.
 use mathlib.Core.Path.{_≡_, PathP, refl, sym, ap, ap₂, _∙_, subst, toPathP}
-use mathlib.Core.Logic.{_⊎_, inl, inr, ⊎-elim}
-use mathlib.Core.Bool.{Bool, true, false}
 use Prim.Native.Nat.{ℕ, _≤_, _<_}
 use native.Mathlib.Bridge.{le-prop}
 use native.Mathlib.Omega.{arith}
-use lib.Dec.{T, eqb, eqb→eq, eqb-refl}
+use native.Mathlib.Decide.{ℕ-discrete}
 use Rattle.algebra.specs.Field.{Meaning, Laws, read}
 use Rattle.algebra.proofs.FirstFound.{read-below, read-lt}
-use Rattle.algebra.proofs.Algebra as alg
+use Rattle.algebra.specs.Ring.{CommRing, Field}
 
 pub record Element (q : ℕ) : Type 0 where
   pub code : ℕ
@@ -17,12 +15,8 @@ pub record Element (q : ℕ) : Type 0 where
 -- elements with equal codes are equal
 pub same : {q : ℕ} (x y : Element q) → x .code ≡ y .code → x ≡ y
 same {q} x y e =
-  let over : PathP (λ i. e i < q) (x .below) (y .below) = toPathP (λ i. e i < q) (le-prop _ _) in
-  λ i. record { code = e i; below = over i }
-
-eq-test : (b : Bool) → (T b) ⊎ (T b → ⊥)
-eq-test true = inl tt
-eq-test false = inr (λ t. t)
+    let over : PathP (λ i. e i < q) (x .below) (y .below) = toPathP (λ i. e i < q) (le-prop _ _) in
+    λ i. record { code = e i; below = over i }
 
 module _ (F : Meaning) (L : Laws F) where
   some : 0 < F .size
@@ -50,36 +44,32 @@ module _ (F : Meaning) (L : Laws F) where
   unit : Element (F .size)
   unit = record { code = 1; below = L .two }
 
-  pub ring : alg.CommRing (Element (F .size))
+  pub ring : CommRing (Element (F .size))
   unfolding plus minus by nought unit
   ring = record {
-    zero = nought;
-    one = unit;
-    add = plus;
-    mul = by;
-    neg = λ x. minus nought x;
+    ops = record { zero = nought; one = unit; add = plus; sub = minus; mul = by };
     add-assoc = λ a b c. same _ _ (L .sum-assoc _ _ _ (a .below) (b .below) (c .below));
     add-comm = λ a b. same _ _ (L .sum-comm _ _ (a .below) (b .below));
     add-zero = λ a. same _ _ (L .sum-zero _ (a .below));
-    add-neg = λ a. same _ _ (L .sum-comm _ _ (a .below) (L .difference-below _ _) ∙ L .difference-sum _ _ some (a .below));
+    sub-add = λ a b. same _ _ (L .difference-sum _ _ (a .below) (b .below));
     mul-assoc = λ a b c. same _ _ (L .product-assoc _ _ _ (a .below) (b .below) (c .below));
     mul-comm = λ a b. same _ _ (L .product-comm _ _ (a .below) (b .below));
     mul-one = λ a. same _ _ (L .product-one _ (a .below));
     mul-add = λ a b c. same _ _ (L .distributes _ _ _ (a .below) (b .below) (c .below));
   }
 
-  pub field : alg.Field (Element (F .size))
+  pub field : Field (Element (F .size))
   unfolding ring nought unit by over
   field = record {
     ring = ring;
     inv = over;
-    distinct = λ e. let h : _≡_ {A = ℕ} 0 1 = ap (λ (x : Element (F .size)). x .code) e in omega arith;
     mul-inv = λ a n. same _ _ (L .inverse-one _ (positive a n) (a .below));
-    decide = λ a b. ⊎-elim (λ t. inl (same a b (eqb→eq _ _ t))) (λ n. inr (λ e. n (subst (λ (x : Element (F .size)). T (eqb (a .code) (x .code))) e (eqb-refl (a .code))))) (eq-test (eqb (a .code) (b .code)));
+    distinct = λ e. let h : _≡_ {A = ℕ} 0 1 = ap (λ (x : Element (F .size)). x .code) e in omega arith;
+    same = λ a b. elim (ℕ-discrete (a .code) (b .code)) [ yes e ↦ yes (same a b e) | no n ↦ no (λ e. n (ap (λ (x : Element (F .size)). x .code) e)) ];
   }
     where
-    positive : (a : Element (F .size)) → (a ≡ nought → ⊥) → 0 < a .code
-    positive a n = let z : a .code ≡ 0 → ⊥ = λ e. n (same a nought e) in omega arith
+      positive : (a : Element (F .size)) → ¬ (a ≡ nought) → 0 < a .code
+      positive a n = let z : a .code ≡ 0 → ⊥ = λ e. n (same a nought e) in omega arith
 
   -- codes and elements
   pub decode-code : (x : Element (F .size)) → decode (x .code) ≡ x
@@ -90,22 +80,26 @@ module _ (F : Meaning) (L : Laws F) where
   unfolding decode
   code-decode n h = read-below (F .size) n h
 
-  pub decode-sum : (a b : ℕ) → decode (F .sum a b) ≡ field .ring .add (decode a) (decode b)
+  pub decode-sum : (a b : ℕ) → decode (F .sum a b) ≡ field .ring .ops .add (decode a) (decode b)
   unfolding decode ring field plus
   decode-sum a b = same _ _ (read-below (F .size) _ (L .sum-below a b) ∙ L .sum-reads a b)
 
-  pub decode-product : (a b : ℕ) → decode (F .product a b) ≡ field .ring .mul (decode a) (decode b)
+  pub decode-product : (a b : ℕ) → decode (F .product a b) ≡ field .ring .ops .mul (decode a) (decode b)
   unfolding decode ring field by
   decode-product a b = same _ _ (read-below (F .size) _ (L .product-below a b) ∙ L .product-reads a b)
+
+  pub decode-difference : (a b : ℕ) → decode (F .difference a b) ≡ field .ring .ops .sub (decode a) (decode b)
+  unfolding decode ring field minus
+  decode-difference a b = same _ _ (read-below (F .size) _ (L .difference-below a b) ∙ L .difference-reads a b)
 
   pub decode-inverse : (a : ℕ) → decode (F .inverse a) ≡ field .inv (decode a)
   unfolding decode field over
   decode-inverse a = same _ _ (read-below (F .size) _ (L .inverse-below a) ∙ L .inverse-reads a)
 
-  pub decode-zero : decode 0 ≡ field .ring .zero
+  pub decode-zero : decode 0 ≡ field .ring .ops .zero
   unfolding decode ring field nought
   decode-zero = same _ _ (read-below (F .size) 0 some)
 
-  pub decode-one : decode 1 ≡ field .ring .one
+  pub decode-one : decode 1 ≡ field .ring .ops .one
   unfolding decode ring field unit
   decode-one = same _ _ (read-below (F .size) 1 (L .two))

@@ -34,10 +34,10 @@ false-T false e t = t
 pub found : (f : ℕ → Bool) (b n w : ℕ) → b ≤ w → w < b + n → T (f w) → T (f (first f b n))
 found f b zero w lo hi t = absurd (let e : b + zero ≡ b = add-zero b in omega arith)
 found f b (suc n) w lo hi t =
-  cond-step (f b) f b (first f (suc b) n) refl
+    cond-step (f b) f b (first f (suc b) n) refl
     (λ e. found f (suc b) n w
-      (let ne : b ≡ w → ⊥ = λ h. false-T (f b) e (subst (λ x. T (f x)) (sym h) t) in omega arith)
-      (omega (arith, add-suc b n, suc-add b n)) t)
+    (let ne : b ≡ w → ⊥ = λ h. false-T (f b) e (subst (λ x. T (f x)) (sym h) t) in omega arith)
+    (omega (arith, add-suc b n, suc-add b n)) t)
 
 cond-lt : (t : Bool) (b x m : ℕ) → b < m → x < m → cond t b x < m
 cond-lt true b x m h k = h
@@ -46,7 +46,7 @@ cond-lt false b x m h k = k
 pub first-below : (f : ℕ → Bool) (b n m : ℕ) → 0 < m → b + n ≤ m → first f b n < m
 first-below f b zero m z h = z
 first-below f b (suc n) m z h =
-  cond-lt (f b) b (first f (suc b) n) m (omega (arith, add-suc b n)) (first-below f (suc b) n m z (omega (arith, add-suc b n, suc-add b n)))
+    cond-lt (f b) b (first f (suc b) n) m (omega (arith, add-suc b n)) (first-below f (suc b) n m z (omega (arith, add-suc b n, suc-add b n)))
 
 cond-none : (t : Bool) (b x : ℕ) → (T t → ⊥) → x ≡ 0 → cond t b x ≡ 0
 cond-none true b x h e = absurd (h tt)

@@ -14,8 +14,8 @@ use Rattle.algebra.proofs.Tests.{and-left, and-right, or-cases, all-below, bel
 
 mul-mod-l : (a b p : ℕ) → (a % p * b) % p ≡ (a * b) % p
 mul-mod-l a b p =
-  sym (add-mul-mod-self-left (a % p * b) p (a / p * b))
-  ∙ ap (λ n. n % p) (ap (λ n. a % p * b + n) (sym (mul-assoc p (a / p) b)) ∙ sym (add-mul (a % p) (p * (a / p)) b) ∙ ap (λ n. n * b) (mod-add-div a p))
+    sym (add-mul-mod-self-left (a % p * b) p (a / p * b))
+    ∙ ap (λ n. n % p) (ap (λ n. a % p * b + n) (sym (mul-assoc p (a / p) b)) ∙ sym (add-mul (a % p) (p * (a / p)) b) ∙ ap (λ n. n * b) (mod-add-div a p))
 
 mul-mod-r : (a b p : ℕ) → (a * (b % p)) % p ≡ (a * b) % p
 mul-mod-r a b p = ap (λ n. n % p) (mul-comm a (b % p)) ∙ mul-mod-l b a p ∙ ap (λ n. n % p) (mul-comm b a)
@@ -38,10 +38,12 @@ module _ (p : ℕ) (t : T (sound p)) where
   powers = and-right (ltb 1 p) (all-below (λ a. eqb a 0 || eqb (a * (a ^ (p - 2) % p) % p) 1) p) (and-right (leb p 256) _ t)
 
   inverse-of : (a : ℕ) → 0 < a → a < p → (b : ℕ) × (b < p) × (a * b % p ≡ 1)
-  inverse-of a z h =
-    (a ^ (p - 2) % p, mod-lt (a ^ (p - 2)) pos,
-     ⊎-elim (λ e. absurd (let q = eqb→eq a 0 e in omega arith)) (eqb→eq (a * (a ^ (p - 2) % p) % p) 1)
-       (or-cases (eqb a 0) (eqb (a * (a ^ (p - 2) % p) % p) 1) (below-at (λ a. eqb a 0 || eqb (a * (a ^ (p - 2) % p) % p) 1) p powers a h)))
+  inverse-of a z h = (
+    a ^ (p - 2) % p,
+    mod-lt (a ^ (p - 2)) pos,
+    ⊎-elim (λ e. absurd (let q = eqb→eq a 0 e in omega arith)) (eqb→eq (a * (a ^ (p - 2) % p) % p) 1)
+        (or-cases (eqb a 0) (eqb (a * (a ^ (p - 2) % p) % p) 1) (below-at (λ a. eqb a 0 || eqb (a * (a ^ (p - 2) % p) % p) 1) p powers a h)),
+  )
 
   codes : Codes p (λ a b. (a + b) % p) (λ a b. (a + (p - b)) % p) (λ a b. (a * b) % p)
   codes = record {
@@ -58,12 +60,12 @@ module _ (p : ℕ) (t : T (sound p)) where
     p-one = λ a h. ap (λ n. n % p) (mul-one a) ∙ mod-eq-of-lt h;
     p-zero = λ b _. ap (λ n. n % p) (zero-mul b) ∙ zero-mod p;
     dist = λ a b c _ _ _.
-      mul-mod-r a (b + c) p ∙ ap (λ n. n % p) (mul-add a b c)
-      ∙ sym (mod-add-mod (a * b) p (a * c % p) ∙ add-mod-mod (a * b) (a * c) p);
+        mul-mod-r a (b + c) p ∙ ap (λ n. n % p) (mul-add a b c)
+        ∙ sym (mod-add-mod (a * b) p (a * c % p) ∙ add-mod-mod (a * b) (a * c) p);
     d-s = λ a b ha hb.
-      mod-add-mod (a + (p - b)) p b
-      ∙ ap (λ n. n % p) (let e : a + (p - b) + b ≡ a + p = omega arith in e)
-      ∙ add-mod-right a p ∙ mod-eq-of-lt ha;
+        mod-add-mod (a + (p - b)) p b
+        ∙ ap (λ n. n % p) (let e : a + (p - b) + b ≡ a + p = omega arith in e)
+        ∙ add-mod-right a p ∙ mod-eq-of-lt ha;
     witness = inverse-of;
   }
 

@@ -29,9 +29,10 @@ all-below f (suc n) = f n && all-below f n
 pub below-at : (f : ℕ → Bool) (n : ℕ) → T (all-below f n) → (k : ℕ) → k < n → T (f k)
 below-at f zero t k h = absurd (not-suc-le-zero h)
 below-at f (suc n) t k h =
-  elim (eq-or-lt-of-le (le-of-suc-le-suc h)) [
-    inl e ↦ subst (λ x. T (f x)) (sym e) (and-left (f n) (all-below f n) t)
-  | inr l ↦ below-at f n (and-right (f n) (all-below f n) t) k l ]
+    elim (eq-or-lt-of-le (le-of-suc-le-suc h)) [
+      | inl e ↦ subst (λ x. T (f x)) (sym e) (and-left (f n) (all-below f n) t)
+      | inr l ↦ below-at f n (and-right (f n) (all-below f n) t) k l
+    ]
 
 -- the test passes at each number of the list
 abbrev pub all-of : (ℕ → Bool) → List ℕ → Bool
@@ -41,6 +42,7 @@ all-of f (x ∷ xs) = f x && all-of f xs
 pub of-at : (f : ℕ → Bool) (xs : List ℕ) → T (all-of f xs) → (n : ℕ) → T (among n xs) → T (f n)
 of-at f [] t n m = absurd m
 of-at f (x ∷ xs) t n m =
-  elim (or-cases (eqb n x) (among n xs) m) [
-    inl e ↦ subst (λ y. T (f y)) (sym (eqb→eq n x e)) (and-left (f x) (all-of f xs) t)
-  | inr r ↦ of-at f xs (and-right (f x) (all-of f xs) t) n r ]
+    elim (or-cases (eqb n x) (among n xs) m) [
+      | inl e ↦ subst (λ y. T (f y)) (sym (eqb→eq n x e)) (and-left (f x) (all-of f xs) t)
+      | inr r ↦ of-at f xs (and-right (f x) (all-of f xs) t) n r
+    ]

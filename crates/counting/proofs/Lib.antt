@@ -1,0 +1,3 @@
+pub mod Monomials
+pub mod First
+pub mod Steps
