@@ -1,4 +1,4 @@
--- The monomials in closed form, and the count at t = n.
+-- How many monomials there are, and the count at t = n.
 use mathlib.Core.Path.{_≡_, refl, sym, ap, ap₂, _∙_, subst}
 use mathlib.Core.Bool.{Bool, true, false, cond, _&&_}
 use mathlib.Core.Logic.{_⊎_, inl, inr, ⊎-elim}
@@ -10,31 +10,9 @@ use Rattle.std.proofs.shelf.Tests.{le-leb, lt-leb, lt-ltb, and-from, cond-true,
 use Rattle.std.specs.Options.{isSome}
 use Rattle.std.specs.declared.option.Option.{Option}
 use Rattle.std.specs.declared.option.Option.the-variants.{None, Some}
+use Rattle.algebra.proofs.Totals.{monomials-is}
 use Rattle.algebra.specs.Interpolation.{total, monomials}
 use Rattle.counting.specs.Counting.{Limits, suits, smallest, by-counting, in-reach}
-
-pub total-ext : (n : ℕ) (f g : ℕ → ℕ) → ((i : ℕ) → i < n → f i ≡ g i) → total n f ≡ total n g
-unfolding total
-total-ext zero f g e = refl
-total-ext (suc n) f g e = ap₂ _+_ (total-ext n f g (λ i h. e i (omega arith))) (e n (omega arith))
-
--- how many i below n have i + c at most D
-below-count : (n c D : ℕ) → n ≤ suc D → total n (λ i. cond (leb (i + c) D) 1 0) ≡ min n (suc D - c)
-unfolding total
-below-count zero c D h = omega arith
-below-count (suc n) c D h =
-    let r = below-count n c D (omega arith) in
-    ⊎-elim
-    (λ lt. ap (λ b. total n (λ i. cond (leb (i + c) D) 1 0) + cond b 1 0) (lt-leb (n + c) D lt) ∙ omega arith)
-    (λ le. ap (λ b. total n (λ i. cond (leb (i + c) D) 1 0) + cond b 1 0) (le-leb (n + c) D (omega arith)) ∙ omega arith)
-    (cases-lt D (n + c))
-
-pub column : (c D : ℕ) → total (suc D) (λ i. cond (leb (i + c) D) 1 0) ≡ suc D - c
-column c D = below-count (suc D) c D (omega arith) ∙ (let z : min (suc D) (suc D - c) ≡ suc D - c = omega arith in z)
-
-pub monomials-closed : (J v D : ℕ) → monomials J v D ≡ total J (λ j. suc D - v * j)
-unfolding monomials
-monomials-closed J v D = total-ext J _ _ (λ j h. column (v * j) D)
 
 pub monomials-more : (J v D : ℕ) → total (J + 1) (λ j. suc D - v * j) ≡ total J (λ j. suc D - v * j) + (suc D - v * J)
 unfolding total
@@ -63,7 +41,7 @@ two-columns K v D h =
     let m = total-mono 2 K (λ j. suc D - v * j) in
     let z = mul-zero v in
     let o = mul-one v in
-    subst (λ z. suc D < z) (sym (monomials-closed (suc (suc K)) v D) )
+    subst (λ z. suc D < z) (sym (monomials-is (suc (suc K)) v D) )
     (subst (λ z. suc D < total z (λ j. suc D - v * j)) (let e : K + 2 ≡ suc (suc K) = omega arith in e) (omega arith))
 
 half : (a : ℕ) → a * 1 * 2 / 2 ≡ a

@@ -12,7 +12,8 @@ use Rattle.std.specs.declared.option.Option.{Option}
 use Rattle.std.specs.declared.option.Option.the-variants.{None, Some}
 use Rattle.algebra.specs.Interpolation.{total, monomials}
 use Rattle.counting.specs.Counting.{limits, suits}
-use Rattle.counting.proofs.Monomials.{monomials-closed, monomials-more, total-le}
+use Rattle.algebra.proofs.Totals.{monomials-is}
+use Rattle.counting.proofs.Monomials.{monomials-more, total-le}
 
 pub capped : (a m v : ℕ) → a ≤ 64 → m ≡ min v (2 ^ 64 - 1) → a - m ≡ a - v
 capped a m v h e = omega arith
@@ -20,7 +21,7 @@ capped a m v h e = omega arith
 pub room-le : (v d : ℕ) → d ≤ 63 → monomials 16 v d ≤ 1024
 room-le v d h =
     let b = total-le 16 64 (λ j. suc d - v * j) (λ j. omega arith) in
-    let e = monomials-closed 16 v d in
+    let e = monomials-is 16 v d in
     omega arith
 
 -- there are at least as many conditions as letters

@@ -2,7 +2,8 @@ use mathlib.Core.Path.{_≡_, refl, sym, ap, ap₂, _∙_, subst}
 use Prim.Native.Nat.{ℕ, suc, _+_, _-_, _*_, _^_, _≤_, min}
 use native.Mathlib.Omega.{arith}
 use Rattle.algebra.specs.Interpolation.{total, monomials}
-use Rattle.counting.proofs.Monomials.{monomials-closed, monomials-more, monomials-none}
+use Rattle.algebra.proofs.Totals.{monomials-is}
+use Rattle.counting.proofs.Monomials.{monomials-more, monomials-none}
 use Rattle.counting.proofs.Steps.{capped}
 use Rattle.counting.proofs.count_monomials.Needs as need
 
@@ -22,4 +23,4 @@ loop-j-again c = next (c .args .v) (c .args .d) (c .loop-j .j) (c .loop-j .sum) 
 pub returns : need.returns
 returns c =
     let z : c .loop-j .j ≡ 16 = omega arith in
-    c .loop-j .inv .0 ∙ ap (λ n. total n (λ j. suc (c .args .d) - c .args .v * j)) z ∙ sym (monomials-closed 16 (c .args .v) (c .args .d))
+    c .loop-j .inv .0 ∙ ap (λ n. total n (λ j. suc (c .args .d) - c .args .v * j)) z ∙ sym (monomials-is 16 (c .args .v) (c .args .d))

@@ -1,0 +1,4 @@
+// Reed-Solomon codes over any field.
+mod laws;
+
+pub use laws::reed_solomon_stands;
