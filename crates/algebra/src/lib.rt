@@ -19,14 +19,12 @@ pub trait Scalar: Sized {
 // All theorems over a field.
 fn over_fields<K: Scalar>()
     ensures { λ _. ⌜ Recovery (K·Scalar .laws) ⌝ }
-{
-}
+{}
 
 // All theorems for codes.
 fn over_codes()
     ensures { λ _. ⌜ CodeRecovery ⌝ }
-{
-}
+{}
 
 // What a curve of weighted degree below r t, with multiplicity r at different pairs, has to do with a polynomial through t of them: it vanishes on it.
 pub fn curve_vanishes<K: Scalar>()
@@ -100,8 +98,7 @@ pub fn lists_are_short()
 
 fn over_two_elements()
     ensures { λ _. ⌜ Example ⌝ }
-{
-}
+{}
 
 // Over two elements the polynomial 0 lies on the curve y and 1 does not, and the second Hasse derivative of x^2 is one,
 // where a plain derivative would be zero.

@@ -58,8 +58,8 @@ each-one h a i zero lo hi e = absurd (omega arith)
 each-one h a i (suc c) lo hi e =
     ⊎-elim
     (λ same.
-        ap (λ z. h i ++ z) (each-none h (suc i) c (λ b l u. e b (omega arith) (omega arith) (λ eq. omega arith)))
-        ∙ append-nil (h i) ∙ ap h same)
+    ap (λ z. h i ++ z) (each-none h (suc i) c (λ b l u. e b (omega arith) (omega arith) (λ eq. omega arith)))
+    ∙ append-nil (h i) ∙ ap h same)
     (λ ne. ap (λ z. z ++ each h (span (suc i) c)) (e i (omega arith) (omega arith) ne) ∙ each-one h a (suc i) c (omega arith) (omega arith) (λ b l u n. e b (omega arith) (omega arith) n))
     (cases-eq i a)
 
@@ -81,9 +81,9 @@ kept-one p (suc k) f [] r e h = absurd (let l = row-length (suc k) p [] r in ome
 kept-one p (suc k) f (a ∷ x) r e h =
     kept-each f (λ a. map (λ m. a ∷ m) (messages p k)) (span 0 p)
     ∙ each-one _ a 0 p (omega arith) (let l = row-head k p a x r in omega arith)
-      (λ b lo hi ne.
-          kept-map f (λ m. b ∷ m) (messages p k)
-          ∙ ap (map (λ m. b ∷ m)) (kept-none p k (λ m. f (b ∷ m)) (λ y ry.
-              ⊎-elim (λ t. absurd (ne (let q = h (b ∷ y) (row-cons k p b y (omega arith) ry) t in cc))) (λ t. t) (cases-bool (f (b ∷ y))))))
+    (λ b lo hi ne.
+    kept-map f (λ m. b ∷ m) (messages p k)
+    ∙ ap (map (λ m. b ∷ m)) (kept-none p k (λ m. f (b ∷ m)) (λ y ry.
+    ⊎-elim (λ t. absurd (ne (let q = h (b ∷ y) (row-cons k p b y (omega arith) ry) t in cc))) (λ t. t) (cases-bool (f (b ∷ y))))))
     ∙ kept-map f (λ m. a ∷ m) (messages p k)
     ∙ ap (map (λ m. a ∷ m)) (kept-one p k (λ m. f (a ∷ m)) x (row-tail k p a x r) e (λ y ry t. let q = h (a ∷ y) (row-cons k p a y (row-head k p a x r) ry) t in cc))

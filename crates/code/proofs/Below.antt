@@ -22,8 +22,8 @@ unfolding below
 below-clear q s zero h = refl
 below-clear q s (suc i) h =
     sym (and-from _ _
-      (⊎-elim (λ lt. or-right (not (s i)) (ltb i q) (lt-ltb i q lt)) (λ le. or-left (not (s i)) (ltb i q) (not-from-false (s i) (h i (omega arith) le))) (cases-lt i q))
-      (sym (below-clear q s i (λ l lt. h l (omega arith)))))
+    (⊎-elim (λ lt. or-right (not (s i)) (ltb i q) (lt-ltb i q lt)) (λ le. or-left (not (s i)) (ltb i q) (not-from-false (s i) (h i (omega arith) le))) (cases-lt i q))
+    (sym (below-clear q s i (λ l lt. h l (omega arith)))))
 
 pub below-broken : (q : ℕ) (s : Letters) (n l : ℕ) → l < n → q ≤ l → s l ≡ true → false ≡ below q n s
 unfolding below

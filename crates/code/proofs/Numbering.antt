@@ -49,7 +49,7 @@ digits-cons p zero a r hp ha hr =
     let m : a * p ^ 0 ≡ a = ap (λ z. a * z) one ∙ mul-one a in
     let e : a * p ^ 0 + r ≡ a = omega arith in
     ap (λ z. (z % p) ∷ []) e ∙ ap (λ z. z ∷ []) (small a p ha)
-    where
+  where
     small : (a p : ℕ) → a < p → a % p ≡ a
     small a p h = native.Mathlib.Nat.mod-eq-of-lt h
 digits-cons p (suc k) a r hp ha hr =
@@ -75,7 +75,7 @@ message-at p (suc k) v hp h =
     ∙ getD-map (λ m. v / p ^ k ∷ m) (messages p k) (v % p ^ k) [] [] (let c = messages-count p k in omega arith)
     ∙ ap (λ z. v / p ^ k ∷ z) (message-at p k (v % p ^ k) hp r)
     ∙ sym (ap (digits p (suc k)) e ∙ digits-cons p k (v / p ^ k) (v % p ^ k) hp a r)
-    where
+  where
     positive : (k : ℕ) → 0 < p ^ k
     positive k = let z = pow-zero p in let lo : 0 ≤ k = omega arith in let a : p ^ 0 ≤ p ^ k = native.Mathlib.Nat.pow-le-pow-right hp lo in omega arith
 

@@ -66,7 +66,7 @@ blocks-rise L h s zero = refl
 blocks-rise L h s (suc i) =
     rising-append (map (λ m. s ∷ m) L) (each (λ a. map (λ m. a ∷ m) L) (span (suc s) i)) (rising-cons s L h) (blocks-rise L h (suc s) i)
     (every-map-all (λ x. every (less x) (each (λ a. map (λ m. a ∷ m) L) (span (suc s) i))) (λ m. s ∷ m)
-      (λ m. every-weak (from-letter (suc s)) (less (s ∷ m)) (less-from s m) (each (λ a. map (λ m. a ∷ m) L) (span (suc s) i)) (blocks-from L (suc s) (suc s) i (omega arith))) L)
+    (λ m. every-weak (from-letter (suc s)) (less (s ∷ m)) (less-from s m) (each (λ a. map (λ m. a ∷ m) L) (span (suc s) i)) (blocks-from L (suc s) (suc s) i (omega arith))) L)
 
 pub messages-rise : (p k : ℕ) → rising (messages p k) ≡ true
 unfolding messages blocks
@@ -119,11 +119,11 @@ occurs-block b x L s (suc i) lo hi =
     occurs-append (b ∷ x) (map (λ m. s ∷ m) L) _ ∙
     ⊎-elim
     (λ e. let q : occurs (b ∷ x) (map (λ m. s ∷ m) L) ≡ occurs x L = subst (λ a. occurs (b ∷ x) (map (λ m. a ∷ m) L) ≡ occurs x L) e (occurs-here b x L) in
-          let r = occurs-before b x L (suc s) i (inl (omega arith)) in
-          let z : occurs (b ∷ x) (map (λ m. s ∷ m) L) + occurs (b ∷ x) (each (λ a. map (λ m. a ∷ m) L) (span (suc s) i)) ≡ occurs x L = omega arith in z)
+    let r = occurs-before b x L (suc s) i (inl (omega arith)) in
+    let z : occurs (b ∷ x) (map (λ m. s ∷ m) L) + occurs (b ∷ x) (each (λ a. map (λ m. a ∷ m) L) (span (suc s) i)) ≡ occurs x L = omega arith in z)
     (λ ne. let q = occurs-there b s x L ne in
-           let r = occurs-block b x L (suc s) i (let z : suc s ≤ b = omega arith in z) (omega arith) in
-           let z : occurs (b ∷ x) (map (λ m. s ∷ m) L) + occurs (b ∷ x) (each (λ a. map (λ m. a ∷ m) L) (span (suc s) i)) ≡ occurs x L = omega arith in z)
+    let r = occurs-block b x L (suc s) i (let z : suc s ≤ b = omega arith in z) (omega arith) in
+    let z : occurs (b ∷ x) (map (λ m. s ∷ m) L) + occurs (b ∷ x) (each (λ a. map (λ m. a ∷ m) L) (span (suc s) i)) ≡ occurs x L = omega arith in z)
     (cases-eq b s)
 
 row-cons : (n k b p : ℕ) (r : Bool) → b < p → (eqb n k && r) ≡ (eqb (suc n) (suc k) && (ltb b p && r))
@@ -174,11 +174,11 @@ kept-occur f x [] = none (f x)
 kept-occur f x (y ∷ L) =
     ⊎-elim
     (λ e.
-        let exy = same-is x y e in
-        ⊎-elim
-        (λ t. keep-yes x y (kept-by f L) (f y) (ap f (sym exy) ∙ t) ∙ ap (λ z. cond (same x y) 1 0 + z) (kept-occur f x L ∙ ap (λ z. cond z (occurs x L) 0) t) ∙ sym (ap (λ z. cond z (cond (same x y) 1 0 + occurs x L) 0) t))
-        (λ n. keep-no x y (kept-by f L) (f y) (ap f (sym exy) ∙ n) ∙ kept-occur f x L ∙ ap (λ z. cond z (occurs x L) 0) n ∙ sym (ap (λ z. cond z (cond (same x y) 1 0 + occurs x L) 0) n))
-        (cases-bool (f x)))
+    let exy = same-is x y e in
+    ⊎-elim
+    (λ t. keep-yes x y (kept-by f L) (f y) (ap f (sym exy) ∙ t) ∙ ap (λ z. cond (same x y) 1 0 + z) (kept-occur f x L ∙ ap (λ z. cond z (occurs x L) 0) t) ∙ sym (ap (λ z. cond z (cond (same x y) 1 0 + occurs x L) 0) t))
+    (λ n. keep-no x y (kept-by f L) (f y) (ap f (sym exy) ∙ n) ∙ kept-occur f x L ∙ ap (λ z. cond z (occurs x L) 0) n ∙ sym (ap (λ z. cond z (cond (same x y) 1 0 + occurs x L) 0) n))
+    (cases-bool (f x)))
     (λ e. other x y (kept-by f L) (f y) e ∙ kept-occur f x L ∙ cond-out (f x) (cond (same x y) 1 0) (occurs x L) (ap (λ z. cond z 1 0) e))
     (cases-bool (same x y))
 

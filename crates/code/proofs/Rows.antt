@@ -65,8 +65,8 @@ messages-rows p zero = refl
 messages-rows p (suc k) =
     every-each (isRow (suc k) p) (λ l. ltb l p) (λ a. map (λ m. a ∷ m) (messages p k))
     (λ a la. every-map (isRow (suc k) p) (isRow k p) (λ m. a ∷ m)
-        (λ x ex. let q = and-parts (eqb (length x) k) (every (λ l. ltb l p) x) ex in and-from _ _ (eq-eqb (suc (length x)) (suc k) (ap suc (eqb-true (length x) k (q .0)))) (and-from _ _ la (q .1)))
-        (messages p k) (messages-rows p k))
+    (λ x ex. let q = and-parts (eqb (length x) k) (every (λ l. ltb l p) x) ex in and-from _ _ (eq-eqb (suc (length x)) (suc k) (ap suc (eqb-true (length x) k (q .0)))) (and-from _ _ la (q .1)))
+    (messages p k) (messages-rows p k))
     (span 0 p) (span-below p 0 p (omega arith))
 
 -- lengths

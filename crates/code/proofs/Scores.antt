@@ -22,12 +22,13 @@ one-is-one : (l n : ℕ) → (n ≤ l → tally (only l) n ≡ 0) × (l < n → 
 unfolding tally
 one-is-one l zero = ((λ _. refl), (λ h. absurd (omega arith)))
 one-is-one l (suc n) =
-    let rest = one-is-one l n in
-    ( (λ h. ap (λ b. cond b 1 0 + tally (only l) n) (ne-eqb n l (λ e. omega arith)) ∙ (let z = rest .0 (omega arith) in omega arith)),
+    let rest = one-is-one l n in (
+      (λ h. ap (λ b. cond b 1 0 + tally (only l) n) (ne-eqb n l (λ e. omega arith)) ∙ (let z = rest .0 (omega arith) in omega arith)),
       (λ h. ⊎-elim
           (λ e. ap (λ b. cond b 1 0 + tally (only l) n) (eq-eqb n l e) ∙ (let z = rest .0 (omega arith) in omega arith))
           (λ ne. ap (λ b. cond b 1 0 + tally (only l) n) (ne-eqb n l ne) ∙ (let z = rest .1 (omega arith) in omega arith))
-          (cases-eq n l)) )
+          (cases-eq n l)),
+    )
 
 size-only : (l : ℕ) → l < 256 → size (only l) ≡ 1
 unfolding size
@@ -53,7 +54,7 @@ hits-points f g [] = refl
 hits-points f g (i ∷ ps) =
     let h = hits-points f g ps in
     elim (eqb (g i) (f i)) as (λ b. cond b 1 0 + hits (clean (map f ps)) (map g ps) ≡ length (cond b (i ∷ kept-by (λ i. eqb (g i) (f i)) ps) (kept-by (λ i. eqb (g i) (f i)) ps)))
-      [ true ↦ omega arith | false ↦ omega arith ]
+    [ true ↦ omega arith | false ↦ omega arith ]
 
 hits-cons : (s : Letters) (l : ℕ) (ss : List Letters) (w : List ℕ) → hits (s ∷ ss) (l ∷ w) ≡ cond (s l) 1 0 + hits ss w
 hits-cons s l ss w = refl
@@ -63,9 +64,9 @@ pub hits-more : (ms : List Marks) (w : List ℕ) (i : ℕ) (d : Marks) → i < l
     → hits (map stands (take (i + 1) ms)) (take (i + 1) w) ≡ hits (map stands (take i ms)) (take i w) + cond (stands (getD ms i d) (getD w i 0)) 1 0
 hits-more ms w i d hm hw =
     ap₂ hits (ap (map stands) (take-more ms i d hm)) (take-more w i 0 hw) ∙ ends ms w i hm hw
-    where
+  where
     ends : (ms : List Marks) (w : List ℕ) (i : ℕ) → i < length ms → i < length w
-      → hits (map stands (take i ms ++ getD ms i d ∷ [])) (take i w ++ getD w i 0 ∷ []) ≡ hits (map stands (take i ms)) (take i w) + cond (stands (getD ms i d) (getD w i 0)) 1 0
+        → hits (map stands (take i ms ++ getD ms i d ∷ [])) (take i w ++ getD w i 0 ∷ []) ≡ hits (map stands (take i ms)) (take i w) + cond (stands (getD ms i d) (getD w i 0)) 1 0
     ends [] w i hm hw = absurd (omega arith)
     ends (m ∷ ms) [] i hm hw = absurd (omega arith)
     ends (m ∷ ms) (l ∷ w) zero hm hw = (let z : cond (stands m l) 1 0 + 0 ≡ 0 + cond (stands m l) 1 0 = omega arith in z)
@@ -80,4 +81,4 @@ hits-all (m ∷ ms) [] (suc i) h = refl
 hits-all (m ∷ ms) (l ∷ w) zero h = absurd (⊎-elim (λ a. omega arith) (λ b. omega arith) h)
 hits-all (m ∷ ms) (l ∷ w) (suc i) h =
     ap (λ z. cond (stands m l) 1 0 + z)
-      (hits-all ms w i (⊎-elim (λ a. inl (let z : length ms ≤ i = omega arith in z)) (λ b. inr (let z : length w ≤ i = omega arith in z)) h))
+    (hits-all ms w i (⊎-elim (λ a. inl (let z : length ms ≤ i = omega arith in z)) (λ b. inr (let z : length w ≤ i = omega arith in z)) h))

@@ -16,7 +16,7 @@ pub spell-none : (p v : ℕ) (xs : List ℕ) → digits p (length xs) v ++ drop 
 spell-none p v xs = ap (λ z. digits p (length xs) v ++ z) (drop-all (length xs) xs (omega arith)) ∙ append-nil _
 
 pub spell-more : (p i rest : ℕ) (xs to : List ℕ) → 0 < i → i ≤ length xs → digits p i rest ++ drop i xs ≡ to
-  → digits p (i - 1) (rest / p) ++ drop (i - 1) (set xs (i - 1) (rest % p)) ≡ to
+    → digits p (i - 1) (rest / p) ++ drop (i - 1) (set xs (i - 1) (rest % p)) ≡ to
 unfolding digits
 spell-more p zero rest xs to h l e = absurd (omega arith)
 spell-more p (suc i) rest xs to h l e =
@@ -30,4 +30,3 @@ spell-more p (suc i) rest xs to h l e =
 pub spell-all : (p i rest : ℕ) (xs to : List ℕ) → i ≡ 0 → digits p i rest ++ drop i xs ≡ to → xs ≡ to
 unfolding digits
 spell-all p i rest xs to z e = ap (λ y. digits p y rest ++ drop y xs) (sym z) ∙ e
-

@@ -40,7 +40,7 @@ pub record ListingRule (m : Meaning) : Type 0 where
   pub reach-inside : (s : Sheet) (t : ℕ) → Inside (m .n) (m .reach s t)
   -- in reach, just the messages with score at least t have nested score at least t
   pub nested-same : (s : Sheet) (t : ℕ) → isSheet m s ≡ true → 1 ≤ t → t ≤ m .top → m .reach s t ≡ within
-    → (x : List ℕ) → isRow (m .k) (m .p) x ≡ true → leb t (m .nested s x) ≡ leb t (m .score s x)
+      → (x : List ℕ) → isRow (m .k) (m .p) x ≡ true → leb t (m .nested s x) ≡ leb t (m .score s x)
   -- the clean rule: on the sheet with only the word of x, each t from least to top is in reach and lists x alone
   pub clean-reach : (x : List ℕ) → isRow (m .k) (m .p) x ≡ true → (t : ℕ) → m .least ≤ t → t ≤ m .top → m .reach (clean (m .word x)) t ≡ within
   pub clean-alone : (x : List ℕ) → isRow (m .k) (m .p) x ≡ true → (t : ℕ) → m .least ≤ t → t ≤ m .top → listing m (clean (m .word x)) t ≡ x ∷ []

@@ -7,6 +7,7 @@ mod traits;
 
 // The most places of a code, and letters of a message.
 pub const MAX_PLACES: usize = 240;
+
 pub const MAX_DIMENSION: usize = 16;
 
 pub use messages::is_row;

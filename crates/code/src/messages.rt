@@ -49,7 +49,11 @@ fn extended(number: usize, largest: u8, letter: u8) -> Option<usize>
     ensures { λ r. ⌜ r ≡ if-fits (number * (largest + 1) + letter) ⌝ }
 {
     let sum = number as u128 * (largest as u128 + 1) + letter as u128;
-    if sum <= usize::MAX as u128 { Some(sum as usize) } else { None }
+    if sum <= usize::MAX as u128 {
+        Some(sum as usize)
+    } else {
+        None
+    }
 }
 
 // The number that the letters of a message make of a number, where it fits the type.

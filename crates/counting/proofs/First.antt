@@ -21,10 +21,10 @@ first-is test b (suc left) t f =
     ⊎-elim
     (λ q. cond-true (test b) _ _ (ap test q ∙ f .passes) ∙ ap Some q)
     (λ n.
-        let l = f .low in
-        let h = f .high in
-        cond-false (test b) _ _ (f .before b (omega arith) (omega arith))
-        ∙ first-is test (suc b) left t (record { low = omega arith; high = omega arith; passes = f .passes; before = λ u lo hi. f .before u (omega arith) hi }))
+    let l = f .low in
+    let h = f .high in
+    cond-false (test b) _ _ (f .before b (omega arith) (omega arith))
+    ∙ first-is test (suc b) left t (record { low = omega arith; high = omega arith; passes = f .passes; before = λ u lo hi. f .before u (omega arith) hi }))
     (cases-eq b t)
 
 -- there is a first where some number passes
@@ -34,13 +34,19 @@ find-first test b (suc left) i lo hi e =
     ⊎-elim
     (λ y. (b, record { low = omega arith; high = omega arith; passes = y; before = λ u l h. absurd (omega arith) }))
     (λ n.
-        let ne : b ≡ i → ⊥ = λ q. both-ways (test b) n (ap test q ∙ e) in
-        let r = find-first test (suc b) left i (omega arith) (omega arith) e in
-        let f = r .1 in
-        let l = f .low in
-        let h = f .high in
-        (r .0, record { low = omega arith; high = omega arith; passes = f .passes;
-          before = λ u lo hi. ⊎-elim (λ q. ap test (sym q) ∙ n) (λ d. f .before u (omega arith) hi) (cases-eq b u) }))
+    let ne : b ≡ i → ⊥ = λ q. both-ways (test b) n (ap test q ∙ e) in
+    let r = find-first test (suc b) left i (omega arith) (omega arith) e in
+    let f = r .1 in
+    let l = f .low in
+    let h = f .high in (
+      r .0,
+      record {
+        low = omega arith;
+        high = omega arith;
+        passes = f .passes;
+        before = λ u lo hi. ⊎-elim (λ q. ap test (sym q) ∙ n) (λ d. f .before u (omega arith) hi) (cases-eq b u);
+      },
+    ))
     (cases-bool (test b))
 
 -- none passes

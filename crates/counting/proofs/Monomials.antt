@@ -41,7 +41,7 @@ two-columns K v D h =
     let m = total-mono 2 K (λ j. suc D - v * j) in
     let z = mul-zero v in
     let o = mul-one v in
-    subst (λ z. suc D < z) (sym (monomials-is (suc (suc K)) v D) )
+    subst (λ z. suc D < z) (sym (monomials-is (suc (suc K)) v D))
     (subst (λ z. suc D < total z (λ j. suc D - v * j)) (let e : K + 2 ≡ suc (suc K) = omega arith in e) (omega arith))
 
 half : (a : ℕ) → a * 1 * 2 / 2 ≡ a
@@ -54,18 +54,19 @@ suits-one L v n y d h =
     let e : 1 * n - 1 ≡ n - 1 = omega arith in
     and-from _ _ (le-leb (1 * n - 1) (L .degree) (omega arith))
     (lt-ltb (n * 1 * (1 + 1) / 2) _
-      (let w = two-columns (L .power - 1) v (n - 1) (omega arith) in
-       let p : suc (suc (L .power - 1)) ≡ suc (L .power) = omega arith in
-       let w2 : suc (n - 1) < monomials (suc (L .power)) v (1 * n - 1) = subst (λ z. suc (n - 1) < monomials (suc (L .power)) v z) (sym e) (subst (λ z. suc (n - 1) < monomials z v (n - 1)) p w) in
-       let f = half n in
-       omega arith))
+    (let w = two-columns (L .power - 1) v (n - 1) (omega arith) in
+    let p : suc (suc (L .power - 1)) ≡ suc (L .power) = omega arith in
+    let w2 : suc (n - 1) < monomials (suc (L .power)) v (1 * n - 1) = subst (λ z. suc (n - 1) < monomials (suc (L .power)) v z) (sym e) (subst (λ z. suc (n - 1) < monomials z v (n - 1)) p w) in
+    let f = half n in
+    omega arith))
 
 pub smallest-some : (test : ℕ → Bool) (b left i : ℕ) → b ≤ i → i < b + left → test i ≡ true → isSome (smallest test b left) ≡ true
 smallest-some test b zero i lo hi e = absurd (omega arith)
 smallest-some test b (suc left) i lo hi e =
     elim (test b) as (λ z. (b ≡ i → z ≡ true) → isSome (cond z (Some b) (smallest test (suc b) left)) ≡ true) [
-      true ↦ (λ _. refl)
-    | false ↦ (λ ne. smallest-some test (suc b) left i (let n : b ≡ i → ⊥ = λ q. let w : _≡_ {A = ℕ} 0 1 = (let g = ne q in cc) in omega arith in omega arith) (omega arith) e) ]
+      | true ↦ (λ _. refl)
+      | false ↦ (λ ne. smallest-some test (suc b) left i (let n : b ≡ i → ⊥ = λ q. let w : _≡_ {A = ℕ} 0 1 = (let g = ne q in cc) in omega arith in omega arith) (omega arith) e)
+    ]
     (λ q. ap test q ∙ e)
 
 pub reach-top : (L : Limits) (v n : ℕ) → 1 ≤ L .multiplicity → 1 ≤ L .power → n ≤ suc (L .degree) → v < n → in-reach L v n n ≡ true

@@ -7,7 +7,9 @@ ghost use Rattle.counting.specs.Counting.{limits, conditions, suits, smallest,
 
 // The bounds of the method: multiplicities from 1, powers of y and weighted degrees from 0.
 pub const MAX_MULTIPLICITY: usize = 4;
+
 pub const MAX_POWER: usize = 15;
+
 pub const MAX_DEGREE: usize = 63;
 
 // No more monomials than this are ever counted.

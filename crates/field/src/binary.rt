@@ -24,7 +24,11 @@ impl BinaryField {
     pub fn new(m: u8) -> Result<BinaryField, Fault>
         ensures { λ r. ⌜ elim r [ Ok f ↦ T (is-exponent m) × (f .m ≡ m) | Err e ↦ (T (is-exponent m) → ⊥) × (e ≡ Unlisted) ] ⌝ }
     {
-        if m >= 2 && m <= 8 { Ok(BinaryField { m }) } else { Err(Fault::Field) }
+        if m >= 2 && m <= 8 {
+            Ok(BinaryField { m })
+        } else {
+            Err(Fault::Field)
+        }
     }
 }
 

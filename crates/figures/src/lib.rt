@@ -6,6 +6,7 @@ ghost use Rattle.algebra.specs.Binary.{binary};
 ghost use Rattle.code.specs.Messages.{number};
 ghost use Rattle.code.specs.Meaning.{listing};
 ghost use Rattle.figures.specs.Examples.{slab-inner, slab-block};
+
 #[cfg(test)]
 mod field_vectors;
 

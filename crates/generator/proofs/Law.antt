@@ -1,26 +1,25 @@
--- A generator code is lawful.
-use mathlib.Core.Path.{_≡_, refl, sym, ap, ap₂, _∙_, subst}
-use mathlib.Core.Bool.{Bool, true, false, cond, not, _&&_}
+-- A generator code keeps the listing rule: two words that agree at more than n - d places are of the same message.
+use mathlib.Core.Path.{_≡_, refl, sym, ap, _∙_}
+use mathlib.Core.Bool.{true, false, not}
 use mathlib.Core.List.{List, [], _∷_, map}
 use mathlib.Core.Logic.{⊎-elim}
-use Prim.Native.Nat.{ℕ, zero, suc, _+_, _-_, _<_, _≤_}
+use Prim.Native.Nat.{ℕ, _+_, _-_, _<_, _≤_}
 use native.Mathlib.Omega.{arith}
-use lib.Dec.{eqb, leb, ltb}
-use lib.ListN.{length, getD}
+use lib.Dec.{leb, ltb}
+use lib.ListN.{getD}
 use Rattle.std.specs.shelf.Lists.{kept-by}
 use Rattle.std.proofs.shelf.Lists.{length-map}
 use Rattle.std.proofs.shelf.Tests.{le-leb, leb-true, cases-bool, not-from-false, not-true, and-from, lt-ltb}
 use Rattle.algebra.specs.Field.{Meaning as Field}
 use Rattle.generator.specs.Ring.{RingLaws}
-use Rattle.code.specs.Meaning.{Meaning, within, listing, clean}
+use Rattle.code.specs.Meaning.{listing, clean}
 use Rattle.code.specs.Messages.{every, isRow, span, messages}
-use Rattle.code.specs.Rule.{ListingRule, Sizes, Inside}
+use Rattle.code.specs.Rule.{ListingRule}
 use Rattle.code.specs.Score.{hits}
 use Rattle.code.proofs.Alone.{kept-one, row-length, row-every, row-from}
 use Rattle.code.proofs.Scores.{hits-self}
 use Rattle.code.proofs.Spans.{span-length}
-use Rattle.generator.specs.Generator.{gen-meaning, gen-word, gen-distance, gen-score, letter, entry, nonzeros, blank, fewest, Table}
-use Rattle.code.proofs.Members.{In}
+use Rattle.generator.specs.Generator.{gen-meaning, gen-word, gen-distance, letter, entry, column, nonzeros, blank, Table}
 use Rattle.code.proofs.Members.{row-in, in-kept, kept-in, in-row}
 use Rattle.generator.proofs.Fewest.{fewest-le, fewest-base, fewest-low}
 use Rattle.generator.proofs.Linear as lin
@@ -31,8 +30,9 @@ module _ (F : Field) (laws : RingLaws F) (g : List ℕ) (n k : ℕ) (fit : Table
 
   letters-fit : (x ps : List ℕ) → every (λ l. ltb l (F .size)) (map (λ j. letter F g n x j) ps) ≡ true
   letters-fit x [] = refl
-  letters-fit x (j ∷ ps) = and-from _ _ (lt-ltb (letter F g n x j) (F .size) (lin.sum-below F laws (λ i. entry g n i j) 0 x)) (letters-fit x ps)
+  letters-fit x (j ∷ ps) = and-from _ _ (lt-ltb (letter F g n x j) (F .size) (lin.sum-below F laws (column g n j) 0 x)) (letters-fit x ps)
 
+  -- a word has n letters below the size
   pub word-row : (x : List ℕ) → isRow n (F .size) (gen-word F g n x) ≡ true
   unfolding gen-word
   word-row x = row-from n (F .size) (map (λ j. letter F g n x j) (span 0 n)) (length-map (span 0 n) _ ∙ span-length 0 n) (letters-fit x (span 0 n))
@@ -45,9 +45,10 @@ module _ (F : Field) (laws : RingLaws F) (g : List ℕ) (n k : ℕ) (fit : Table
       let l = row-length k (F .size) x r in
       let lt = w .1 in
       let kn = fit .k-n in
-      let e = lin.one-column F laws (λ i. entry g n i (w .0)) (w .0) 0 k x l (omega arith) (omega arith) (λ i lo hi. fit .identity i (w .0) (omega arith) (omega arith)) (row-every k (F .size) x r) in
+      let e = lin.one-column F laws (column g n (w .0)) (w .0) 0 k x l (omega arith) (omega arith) (λ i lo hi. fit .identity i (w .0) (omega arith) (omega arith)) (row-every k (F .size) x r) in
       lin.some-nonzero (λ j. letter F g n x j) 0 n (w .0) (omega arith) (omega arith) (λ z. w .2 (ap (λ i. getD x i 0) (let q : w .0 ≡ w .0 - 0 = omega arith in q) ∙ sym e ∙ z))
 
+  -- the distance lies between 1 and n
   distance-high : gen-distance F g n k ≤ n
   unfolding gen-distance
   distance-high = fewest-base _ n _
@@ -58,6 +59,7 @@ module _ (F : Field) (laws : RingLaws F) (g : List ℕ) (n k : ℕ) (fit : Table
       fewest-low (λ x. nonzeros (gen-word F g n x)) n (kept-by (λ x. not (blank x)) (messages (F .size) k)) (let a = fit .k-low in let b = fit .k-n in omega arith)
       (λ x h. let z = kept-in (λ x. not (blank x)) x (messages (F .size) k) h in some-letter x (in-row (F .size) k x (z .1)) (not-true (blank x) (z .0)))
 
+  -- no nonzero message has a word with fewer nonzero letters
   distance-le : (x : List ℕ) → isRow k (F .size) x ≡ true → blank x ≡ false → gen-distance F g n k ≤ nonzeros (gen-word F g n x)
   unfolding gen-distance
   distance-le x r b = fewest-le (λ x. nonzeros (gen-word F g n x)) n x _ (in-kept (λ x. not (blank x)) x (messages (F .size) k) (not-from-false (blank x) b) (row-in (F .size) k x r))
@@ -70,7 +72,7 @@ module _ (F : Field) (laws : RingLaws F) (g : List ℕ) (n k : ℕ) (fit : Table
       let ly = row-length k (F .size) y ry in
       let s = span-length 0 n in
       let o = lin.overlap (λ j. letter F g n x j) (λ j. letter F g n y j) (λ j. letter F g n (lin.minus F y x) j)
-                (λ j e. lin.agree-zero F laws (λ i. entry g n i j) (column-fits j) y x (ly ∙ sym lx) (row-every k (F .size) y ry) (row-every k (F .size) x rx) e) (span 0 n) in
+      (λ j e. lin.agree-zero F laws (column g n j) (column-fits j) y x (ly ∙ sym lx) (row-every k (F .size) y ry) (row-every k (F .size) x rx) e) (span 0 n) in
       omega arith
 
   -- a message that agrees at more than n - d places is the same
@@ -86,12 +88,13 @@ module _ (F : Field) (laws : RingLaws F) (g : List ℕ) (n k : ℕ) (fit : Table
       (λ b. absurd (let l = distance-le (lin.minus F y x) (row-from k (F .size) (lin.minus F y x) (m .0) (m .1)) b in omega arith))
       (cases-bool (blank (lin.minus F y x)))
 
+  -- the clean rule
   clean-alone : (x : List ℕ) → isRow k (F .size) x ≡ true → (t : ℕ) → n - gen-distance F g n k + 1 ≤ t → t ≤ n → listing (gen-meaning F g n k) (clean (gen-word F g n x)) t ≡ x ∷ []
   unfolding listing
   clean-alone x r t lo hi =
       kept-one (F .size) k (λ y. leb t (hits (clean (gen-word F g n x)) (gen-word F g n y))) x r
-        (le-leb t _ (let s = hits-self (gen-word F g n x) in let l = row-length n (F .size) _ (word-row x) in omega arith))
-        (λ y ry e. one-message x y r ry (let h = leb-true t _ e in omega arith))
+      (le-leb t _ (let s = hits-self (gen-word F g n x) in let l = row-length n (F .size) _ (word-row x) in omega arith))
+      (λ y ry e. one-message x y r ry (let h = leb-true t _ e in omega arith))
 
   pub generator-lawful : ListingRule (gen-meaning F g n k)
   generator-lawful =
@@ -105,8 +108,16 @@ module _ (F : Field) (laws : RingLaws F) (g : List ℕ) (n k : ℕ) (fit : Table
       let dh = distance-high in
       record {
         sizes = record {
-          q-low = omega arith; q-high = b; n-low = omega arith; n-high = omega arith; p-low = omega arith; p-high = b; k-low = k1; k-high = omega arith;
-          least-low = omega arith; least-top = omega arith;
+          q-low = omega arith;
+          q-high = b;
+          n-low = omega arith;
+          n-high = omega arith;
+          p-low = omega arith;
+          p-high = b;
+          k-low = k1;
+          k-high = omega arith;
+          least-low = omega arith;
+          least-top = omega arith;
         };
         word-row = λ x e. word-row x;
         reach-inside = λ s t. tt;

@@ -1,7 +1,8 @@
-pub mod OfField
 pub mod Checks
-pub mod Fewest
-pub mod Linear
+pub mod Making
+pub mod Buffers
 pub mod Turns
-pub mod Shown
+pub mod OfField
+pub mod Linear
+pub mod Fewest
 pub mod Law

@@ -1,26 +1,28 @@
--- The word of a difference is the difference of the words.
-use mathlib.Core.Path.{_≡_, refl, sym, ap, ap₂, _∙_, subst}
-use mathlib.Core.Bool.{Bool, true, false, cond, not, _&&_}
+-- The word of a difference is the difference of the words, and the first k letters of a word are its message.
+use mathlib.Core.Path.{_≡_, refl, sym, ap, ap₂, _∙_}
+use mathlib.Core.Bool.{Bool, true, false, cond, _&&_}
 use mathlib.Core.List.{List, [], _∷_, map}
-use mathlib.Core.Logic.{_⊎_, inl, inr, ⊎-elim}
+use mathlib.Core.Logic.{⊎-elim}
 use Prim.Native.Nat.{ℕ, zero, suc, _+_, _-_, _<_, _≤_}
 use native.Mathlib.Omega.{arith}
 use lib.Dec.{eqb, ltb}
 use lib.ListN.{length, getD}
-use Rattle.std.proofs.shelf.Tests.{and-parts, and-from, eqb-true, eqb-false, eq-eqb, ne-eqb, ltb-true, lt-ltb, cases-eq, cases-bool}
+use Rattle.std.proofs.shelf.Tests.{and-parts, and-from, eqb-true, eq-eqb, ne-eqb, ltb-true, lt-ltb, cases-eq}
 use Rattle.algebra.specs.Field.{Meaning as Field}
 use Rattle.generator.specs.Ring.{RingLaws}
-use Rattle.code.specs.Messages.{every, isRow, span}
+use Rattle.code.specs.Messages.{every, span}
 use Rattle.code.specs.Meaning.{clean}
 use Rattle.code.specs.Score.{hits}
 use Rattle.generator.specs.Generator.{sum-rows, nonzeros, blank}
 
 module _ (F : Field) where
+  -- the difference of two messages, letter by letter
   abbrev pub minus : List ℕ → List ℕ → List ℕ
   minus [] xs = []
   minus (y ∷ ys) [] = []
   minus (y ∷ ys) (x ∷ xs) = F .difference y x ∷ minus ys xs
 
+  -- letters of the field
   abbrev pub Below : List ℕ → Type 0
   Below xs = every (λ l. ltb l (F .size)) xs ≡ true
 
@@ -28,6 +30,7 @@ module _ (F : Field) where
     zero-lt : 0 < F .size
     zero-lt = let h = L .two in omega arith
 
+    -- a letter of a word is below the size
     pub sum-below : (column : ℕ → ℕ) (i : ℕ) (xs : List ℕ) → sum-rows F column i xs < F .size
     sum-below column i [] = zero-lt
     sum-below column i (x ∷ xs) = L .sum-below _ _
@@ -39,10 +42,12 @@ module _ (F : Field) where
         ∙ ap (F .sum a) (sym (L .sum-assoc b c d hb hc hd) ∙ ap (λ z. F .sum z d) (L .sum-comm b c hb hc) ∙ L .sum-assoc c b d hc hb hd)
         ∙ sym (L .sum-assoc a c _ ha hc (L .sum-below _ _))
 
+    -- a c + b c = (a + b) c
     right : (a b c : ℕ) → a < F .size → b < F .size → c < F .size → F .sum (F .product a c) (F .product b c) ≡ F .product (F .sum a b) c
     right a b c ha hb hc =
         ap₂ (F .sum) (L .product-comm a c ha hc) (L .product-comm b c hb hc) ∙ sym (L .distributes c a b hc ha hb) ∙ L .product-comm c _ hc (L .sum-below _ _)
 
+    -- a + b = b only at a = 0
     cancel : (a b : ℕ) → a < F .size → b < F .size → F .sum a b ≡ b → a ≡ 0
     cancel a b ha hb e =
         let m = F .difference 0 b in
@@ -56,8 +61,9 @@ module _ (F : Field) where
     pub product-zero : (a : ℕ) → a < F .size → F .product a 0 ≡ 0
     product-zero a h =
         cancel (F .product a 0) (F .product a 0) (L .product-below _ _) (L .product-below _ _)
-          (sym (L .distributes a 0 0 h zero-lt zero-lt) ∙ ap (F .product a) (L .sum-zero 0 zero-lt))
+        (sym (L .distributes a 0 0 h zero-lt zero-lt) ∙ ap (F .product a) (L .sum-zero 0 zero-lt))
 
+    -- a difference of messages is a message
     pub minus-row : (k : ℕ) (ys xs : List ℕ) → length ys ≡ k → length xs ≡ k → (length (minus ys xs) ≡ k) × Below (minus ys xs)
     minus-row k [] xs ey ex = (ey, refl)
     minus-row k (y ∷ ys) [] ey ex = absurd (omega arith)
@@ -80,8 +86,9 @@ module _ (F : Field) where
         ap₂ _∷_ (sym (L .difference-sum y x ly lx) ∙ ap (λ w. F .sum w x) (eqb-true _ 0 (z .0)) ∙ zero-sum x lx) (minus-blank ys xs (omega arith) (p .1) (q .1) (z .1))
 
     module _ (column : ℕ → ℕ) (fits : (i : ℕ) → column i < F .size) where
+      -- the sum over a difference, and that over the second message, make the sum over the first
       pub linear : (i : ℕ) (ys xs : List ℕ) → length ys ≡ length xs → Below ys → Below xs
-        → F .sum (sum-rows F column i (minus ys xs)) (sum-rows F column i xs) ≡ sum-rows F column i ys
+          → F .sum (sum-rows F column i (minus ys xs)) (sum-rows F column i xs) ≡ sum-rows F column i ys
       linear i [] [] e hy hx = L .sum-zero 0 zero-lt
       linear i [] (x ∷ xs) e hy hx = absurd (omega arith)
       linear i (y ∷ ys) [] e hy hx = absurd (omega arith)
@@ -97,7 +104,7 @@ module _ (F : Field) where
       pub agree-zero : (ys xs : List ℕ) → length ys ≡ length xs → Below ys → Below xs → sum-rows F column 0 ys ≡ sum-rows F column 0 xs → sum-rows F column 0 (minus ys xs) ≡ 0
       agree-zero ys xs e hy hx a = cancel _ (sum-rows F column 0 xs) (sum-below column 0 (minus ys xs)) (sum-below column 0 xs) (linear 0 ys xs e hy hx ∙ a)
 
-    -- columns of the identity give the message back
+    -- a column of zeros sums to zero
     past : (column : ℕ → ℕ) (j i n : ℕ) (xs : List ℕ) → length xs ≤ n → ((r : ℕ) → i ≤ r → r < i + n → column r ≡ 0) → Below xs → sum-rows F column i xs ≡ 0
     past column j i n [] l h b = refl
     past column j i zero (x ∷ xs) l h b = absurd (omega arith)
@@ -106,8 +113,9 @@ module _ (F : Field) where
         ap₂ (F .sum) (ap (F .product x) (h i (omega arith) (omega arith)) ∙ product-zero x (ltb-true x (F .size) (p .0))) (past column j (suc i) n xs (omega arith) (λ r lo hi. h r (omega arith) (omega arith)) (p .1))
         ∙ L .sum-zero 0 zero-lt
 
+    -- a column of the identity gives a letter of the message back
     pub one-column : (column : ℕ → ℕ) (j i n : ℕ) (xs : List ℕ) → length xs ≡ n → i ≤ j → j < i + n → ((r : ℕ) → i ≤ r → r < i + n → column r ≡ cond (eqb r j) 1 0) → Below xs
-      → sum-rows F column i xs ≡ getD xs (j - i) 0
+        → sum-rows F column i xs ≡ getD xs (j - i) 0
     one-column column j i n [] l lo hi h b = absurd (omega arith)
     one-column column j i zero (x ∷ xs) l lo hi h b = absurd (omega arith)
     one-column column j i (suc n) (x ∷ xs) l lo hi h b =
@@ -115,23 +123,23 @@ module _ (F : Field) where
         let lx = ltb-true x (F .size) (p .0) in
         ⊎-elim
         (λ e.
-            ap₂ (F .sum)
-              (ap (F .product x) (h i (omega arith) (omega arith) ∙ ap (λ z. cond z 1 0) (eq-eqb i j e)) ∙ L .product-one x lx)
-              (past column j (suc i) n xs (omega arith) (λ r a c. h r (omega arith) (omega arith) ∙ ap (λ z. cond z 1 0) (ne-eqb r j (λ q. omega arith))) (p .1))
-            ∙ L .sum-zero x lx
-            ∙ ap (λ z. getD (x ∷ xs) z 0) (let z : 0 ≡ j - i = omega arith in z))
+        ap₂ (F .sum)
+        (ap (F .product x) (h i (omega arith) (omega arith) ∙ ap (λ z. cond z 1 0) (eq-eqb i j e)) ∙ L .product-one x lx)
+        (past column j (suc i) n xs (omega arith) (λ r a c. h r (omega arith) (omega arith) ∙ ap (λ z. cond z 1 0) (ne-eqb r j (λ q. omega arith))) (p .1))
+        ∙ L .sum-zero x lx
+        ∙ ap (λ z. getD (x ∷ xs) z 0) (let z : 0 ≡ j - i = omega arith in z))
         (λ ne.
-            ap₂ (F .sum)
-              (ap (F .product x) (h i (omega arith) (omega arith) ∙ ap (λ z. cond z 1 0) (ne-eqb i j ne)) ∙ product-zero x lx)
-              (one-column column j (suc i) n xs (omega arith) (omega arith) (omega arith) (λ r a c. h r (omega arith) (omega arith)) (p .1))
-            ∙ zero-sum _ (below-at xs (j - suc i) (p .1))
-            ∙ ap (λ z. getD (x ∷ xs) z 0) (let z : suc (j - suc i) ≡ j - i = omega arith in z))
+        ap₂ (F .sum)
+        (ap (F .product x) (h i (omega arith) (omega arith) ∙ ap (λ z. cond z 1 0) (ne-eqb i j ne)) ∙ product-zero x lx)
+        (one-column column j (suc i) n xs (omega arith) (omega arith) (omega arith) (λ r a c. h r (omega arith) (omega arith)) (p .1))
+        ∙ zero-sum _ (below-at xs (j - suc i) (p .1))
+        ∙ ap (λ z. getD (x ∷ xs) z 0) (let z : suc (j - suc i) ≡ j - i = omega arith in z))
         (cases-eq i j)
       where
-      below-at : (xs : List ℕ) (i : ℕ) → Below xs → getD xs i 0 < F .size
-      below-at [] i b = zero-lt
-      below-at (x ∷ xs) zero b = ltb-true x (F .size) (and-parts (ltb x (F .size)) (every (λ l. ltb l (F .size)) xs) b .0)
-      below-at (x ∷ xs) (suc i) b = below-at xs i (and-parts (ltb x (F .size)) (every (λ l. ltb l (F .size)) xs) b .1)
+        below-at : (xs : List ℕ) (i : ℕ) → Below xs → getD xs i 0 < F .size
+        below-at [] i b = zero-lt
+        below-at (x ∷ xs) zero b = ltb-true x (F .size) (and-parts (ltb x (F .size)) (every (λ l. ltb l (F .size)) xs) b .0)
+        below-at (x ∷ xs) (suc i) b = below-at xs i (and-parts (ltb x (F .size)) (every (λ l. ltb l (F .size)) xs) b .1)
 
 -- places that agree, and places of the difference that are not zero, are apart
 pub overlap : {X : Type 0} (f g h : X → ℕ) → ((j : X) → g j ≡ f j → h j ≡ 0) → (ps : List X) → hits (clean (map f ps)) (map g ps) + nonzeros (map h ps) ≤ length ps
@@ -140,15 +148,15 @@ overlap f g h z (j ∷ ps) =
     let r = overlap f g h z ps in
     ⊎-elim
     (λ e.
-        let a : _≡_ {A = ℕ} (cond (eqb (g j) (f j)) 1 0) 1 = ap (λ b. cond b 1 0) (eq-eqb (g j) (f j) e) in
-        let b : _≡_ {A = ℕ} (cond (eqb (h j) 0) 0 1) 0 = ap (λ b. cond b 0 1) (eq-eqb (h j) 0 (z j e)) in
-        omega arith)
+    let a : _≡_ {A = ℕ} (cond (eqb (g j) (f j)) 1 0) 1 = ap (λ b. cond b 1 0) (eq-eqb (g j) (f j) e) in
+    let b : _≡_ {A = ℕ} (cond (eqb (h j) 0) 0 1) 0 = ap (λ b. cond b 0 1) (eq-eqb (h j) 0 (z j e)) in
+    omega arith)
     (λ ne.
-        let a : _≡_ {A = ℕ} (cond (eqb (g j) (f j)) 1 0) 0 = ap (λ b. cond b 1 0) (ne-eqb (g j) (f j) ne) in
-        let b : cond (eqb (h j) 0) 0 1 ≤ 1 = small (eqb (h j) 0) in
-        omega arith)
+    let a : _≡_ {A = ℕ} (cond (eqb (g j) (f j)) 1 0) 0 = ap (λ b. cond b 1 0) (ne-eqb (g j) (f j) ne) in
+    let b : cond (eqb (h j) 0) 0 1 ≤ 1 = small (eqb (h j) 0) in
+    omega arith)
     (cases-eq (g j) (f j))
-    where
+  where
     small : (b : Bool) → cond b 0 1 ≤ 1
     small true = omega arith
     small false = omega arith

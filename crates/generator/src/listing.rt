@@ -1,20 +1,19 @@
-// A generator code is a code.
-ghost use Rattle.generator.specs.Generator.{gen-meaning, Table};
+// A generator code is a code: every sheet is in reach, and the list is found by trying every message.
+ghost use Rattle.generator.specs.Values.{meaning-of, Made};
 use crate::table::Generator;
 use crate::words::word_of;
 use code::Code;
 use code::is_row;
-use code::is_sheet;
-use field::Field;
 use fault::Fault;
+use field::Field;
 use sheet::Marks;
 
 pub impl<F: Field> Code for Generator<F> as GeneratorCode {
     const FAMILY: u8 = F::FAMILY;
 
-    ghost means = { λ c. gen-meaning (F·Field .means (c .field)) (c .table) (c .n) (c .k) };
+    ghost means = { meaning-of (F·Field .means) };
 
-    ghost made = { λ c. Table (F·Field .means (c .field)) (c .table) (c .n) (c .k) };
+    ghost made = { Made (F·Field .means) };
 
     fn family_number(&self) -> u8 {
         self.field.family_number()
@@ -29,7 +28,7 @@ pub impl<F: Field> Code for Generator<F> as GeneratorCode {
     }
 
     fn base(&self) -> usize {
-        self.field.size() as usize
+        self.letters()
     }
 
     fn dimension(&self) -> usize {
@@ -37,12 +36,11 @@ pub impl<F: Field> Code for Generator<F> as GeneratorCode {
     }
 
     fn top(&self) -> usize {
-        self.n
+        self.places()
     }
 
     fn least(&self) -> usize {
-        let d = self.distance();
-        self.n.saturating_sub(d) + 1
+        self.top().saturating_sub(self.distance()) + 1
     }
 
     fn encode(&self, message: &[u8], word: &mut [u8]) -> Result<(), Fault> {
@@ -50,7 +48,7 @@ pub impl<F: Field> Code for Generator<F> as GeneratorCode {
         if word.len() != self.n {
             return Err(Fault::Length);
         }
-        if !is_row(message, self.k, self.field.size() as usize) {
+        if !is_row(message, self.k, self.base()) {
             return Err(Fault::Message);
         }
         word_of(&self.field, &self.table, message, word);
@@ -59,10 +57,10 @@ pub impl<F: Field> Code for Generator<F> as GeneratorCode {
 
     fn list(&self, sheet: &[Marks], t: usize, buf: &mut [u8]) -> Result<usize, Fault> {
         buf.fill(0);
-        if !is_sheet(sheet, self.n, self.field.size() as usize) {
+        if !self.has_sheet(sheet) {
             return Err(Fault::Sheet);
         }
-        if t < 1 || t > self.n {
+        if !self.has_agreement(t) {
             return Err(Fault::Agreement);
         }
         let count = self.count(sheet, t);

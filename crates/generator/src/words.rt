@@ -1,18 +1,24 @@
-// The steps of a generator code.
+// The steps of a generator code on rows of letters, and its limits.
 ghost use mathlib.Core.Path.{_≡_};
-ghost use mathlib.Core.Bool.{cond};
-ghost use Prim.Native.Nat.{ℕ, _+_, _*_, _^_, _≤_, _<_};
-ghost use lib.Dec.{eqb};
-ghost use lib.ListN.{length, getD};
-ghost use Rattle.code.specs.Messages.{every};
-ghost use Rattle.generator.specs.Generator.{letter, gen-word, nonzeros, blank, entry, has-identity, gen-shaped, all-below};
+ghost use Prim.Native.Nat.{_+_, _*_, _≤_, _<_};
+ghost use lib.ListN.{length};
+ghost use Rattle.generator.specs.Generator.{letter, gen-word, nonzeros, blank, unit, unit-row, has-identity, gen-shaped, max-rows, max-places, table-size};
 use field::Field;
+
+// the limits: the rows and the columns of a table, the messages, and the letters that a table has room for
+pub(crate) const MAX_ROWS: usize = 8;
+
+pub(crate) const MAX_PLACES: usize = 16;
+
+pub(crate) const MAX_MESSAGES: u128 = 256;
+
+pub(crate) const TABLE_SIZE: usize = MAX_ROWS * MAX_PLACES;
 
 // One letter of the word: the sum of message letter times row letter.
 fn letter_of<F: Field>(field: &F, table: &[u8], n: usize, message: &[u8], j: usize) -> u8
-    requires table { ⌜ length (now table) ≡ 128 ⌝ }
-    requires message { ⌜ length (now message) ≤ 8 ⌝ }
-    requires n { ⌜ n ≤ 16 ⌝ }
+    requires table { ⌜ length (now table) ≡ table-size ⌝ }
+    requires message { ⌜ length (now message) ≤ max-rows ⌝ }
+    requires n { ⌜ n ≤ max-places ⌝ }
     requires j { ⌜ j < n ⌝ }
     ensures { λ r. ⌜ r ≡ letter (F·Field .means (now (field .entry))) (now (table .entry)) n (now (message .entry)) j ⌝ }
 {
@@ -24,10 +30,10 @@ fn letter_of<F: Field>(field: &F, table: &[u8], n: usize, message: &[u8], j: usi
 }
 
 // Fills in the word of the message.
-pub fn word_of<F: Field>(field: &F, table: &[u8], message: &[u8], word: &mut [u8])
-    requires table { ⌜ length (now table) ≡ 128 ⌝ }
-    requires message { ⌜ length (now message) ≤ 8 ⌝ }
-    requires n { ⌜ length (now word) ≤ 16 ⌝ }
+pub(crate) fn word_of<F: Field>(field: &F, table: &[u8], message: &[u8], word: &mut [u8])
+    requires table { ⌜ length (now table) ≡ table-size ⌝ }
+    requires message { ⌜ length (now message) ≤ max-rows ⌝ }
+    requires n { ⌜ length (now word) ≤ max-places ⌝ }
     ensures { λ _. ⌜ now (word .exit) ≡ gen-word (F·Field .means (now (field .entry))) (now (table .entry)) (length (now (word .entry))) (now (message .entry)) ⌝ }
 {
     for j in 0..word.len() {
@@ -36,12 +42,12 @@ pub fn word_of<F: Field>(field: &F, table: &[u8], message: &[u8], word: &mut [u8
 }
 
 // How many letters are not zero.
-pub fn nonzeros_of(word: &[u8]) -> usize
+pub(crate) fn nonzeros_of(word: &[u8]) -> usize
     ensures { λ r. ⌜ r ≡ nonzeros (now (word .entry)) ⌝ }
 {
     let mut sum = 0;
-    for i in (0..word.len()).rev() {
-        if word[i] != 0 {
+    for l in word {
+        if *l != 0 {
             sum += 1;
         }
     }
@@ -49,7 +55,7 @@ pub fn nonzeros_of(word: &[u8]) -> usize
 }
 
 // Whether every letter is zero.
-pub fn is_blank(message: &[u8]) -> bool
+pub(crate) fn is_blank(message: &[u8]) -> bool
     ensures { λ r. ⌜ r ≡ blank (now (message .entry)) ⌝ }
 {
     for l in message {
@@ -60,17 +66,23 @@ pub fn is_blank(message: &[u8]) -> bool
     true
 }
 
-// Whether row i of the first k columns is that of the identity.
+// The letter in row i and column j of the identity.
+fn unit(i: usize, j: usize) -> u8
+    ensures { λ r. ⌜ r ≡ unit i j ⌝ }
+{
+    if i == j { 1 } else { 0 }
+}
+
+// Whether row i is that of the identity, in the first k columns.
 fn is_unit(table: &[u8], n: usize, k: usize, i: usize) -> bool
     requires whole { ⌜ length (now table) ≡ k * n ⌝ }
     requires k { ⌜ k ≤ n ⌝ }
-    requires n { ⌜ n ≤ 16 ⌝ }
+    requires n { ⌜ n ≤ max-places ⌝ }
     requires i { ⌜ i < k ⌝ }
-    ensures { λ r. ⌜ r ≡ all-below k (λ j. eqb (entry (now (table .entry)) n i j) (cond (eqb i j) 1 0)) ⌝ }
+    ensures { λ r. ⌜ r ≡ unit-row (now (table .entry)) n k i ⌝ }
 {
     for j in 0..k {
-        let unit = if i == j { 1 } else { 0 };
-        if table[i * n + j] != unit {
+        if table[i * n + j] != unit(i, j) {
             return false;
         }
     }
@@ -78,10 +90,10 @@ fn is_unit(table: &[u8], n: usize, k: usize, i: usize) -> bool
 }
 
 // Whether the first k columns are the identity.
-pub fn is_identity(table: &[u8], n: usize, k: usize) -> bool
+pub(crate) fn is_identity(table: &[u8], n: usize, k: usize) -> bool
     requires whole { ⌜ length (now table) ≡ k * n ⌝ }
     requires k { ⌜ k ≤ n ⌝ }
-    requires n { ⌜ n ≤ 16 ⌝ }
+    requires n { ⌜ n ≤ max-places ⌝ }
     ensures { λ r. ⌜ r ≡ has-identity (now (table .entry)) n k ⌝ }
 {
     for i in 0..k {
@@ -93,9 +105,13 @@ pub fn is_identity(table: &[u8], n: usize, k: usize) -> bool
 }
 
 // Whether n, k and the number of messages lie in their limits.
-pub fn is_shaped(q: usize, n: usize, k: usize) -> bool
+pub(crate) fn is_shaped(q: usize, n: usize, k: usize) -> bool
     requires { ⌜ q ≤ 256 ⌝ }
     ensures { λ r. ⌜ r ≡ gen-shaped q n k ⌝ }
 {
-    1 <= k && k <= 8 && k <= n && n <= 16 && (q as u128).pow(k as u32) <= 256
+    1 <= k
+        && k <= MAX_ROWS
+        && k <= n
+        && n <= MAX_PLACES
+        && (q as u128).pow(k as u32) <= MAX_MESSAGES
 }

@@ -4,7 +4,8 @@
 // `*` where both were heard, or `-` where none was: `11000000 6`.
 ghost use Rattle.std.specs.declared.result.Result.the-variants.{Ok, Err};
 ghost use Rattle.algebra.specs.Prime.{prime};
-ghost use Rattle.generator.specs.Generator.{Table};
+ghost use Rattle.generator.specs.Values.{Made};
+
 mod task;
 
 use code::Code;
@@ -22,13 +23,44 @@ use task::Task;
 
 // the inner code of a slab record, row after row
 const ROWS: [u8; 32] = [
-    1, 0, 0, 0, 0, 1, 1, 1, //
-    0, 1, 0, 0, 1, 0, 1, 1, //
-    0, 0, 1, 0, 1, 1, 0, 1, //
-    0, 0, 0, 1, 1, 1, 1, 0,
+    1,
+    0,
+    0,
+    0,
+    0,
+    1,
+    1,
+    1, //
+    0,
+    1,
+    0,
+    0,
+    1,
+    0,
+    1,
+    1, //
+    0,
+    0,
+    1,
+    0,
+    1,
+    1,
+    0,
+    1, //
+    0,
+    0,
+    0,
+    1,
+    1,
+    1,
+    1,
+    0,
 ];
+
 const PLACES: usize = 8;
+
 const DIMENSION: usize = 4;
+
 const LARGEST_LETTER: u8 = 1;
 
 // all sixteen messages, of four letters each
@@ -38,7 +70,7 @@ const ROOM: usize = 64;
 const LONGEST_INPUT: u64 = 4096;
 
 fn slab_block() -> Result<Generator<PrimeField>, Fault>
-    ensures { λ r. ⌜ elim r [ Ok c ↦ Table (prime (c .field .p)) (c .table) (c .n) (c .k) | Err e ↦ Unit {0} ] ⌝ }
+    ensures { λ r. ⌜ elim r [ Ok c ↦ Made (λ f. prime (f .p)) c | Err e ↦ Unit {0} ] ⌝ }
 {
     let field = PrimeField::new(2)?;
     Generator::new(field, PLACES, DIMENSION, &ROWS)
@@ -64,7 +96,13 @@ fn run(rt: &LibcRuntime, task: &Task) -> io::Result<()> {
         Ok(code) => code,
         Err(fault) => return println!(rt, "refused {}", fault.number()),
     };
-    println!(rt, "block of {} places, top {}, least {}", code.places(), code.top(), code.least())?;
+    println!(
+        rt,
+        "block of {} places, top {}, least {}",
+        code.places(),
+        code.top(),
+        code.least()
+    )?;
     let mut buf = [0u8; ROOM];
     match code.list(&task.sheet, task.agreement, &mut buf) {
         Ok(count) => {
@@ -77,7 +115,10 @@ fn run(rt: &LibcRuntime, task: &Task) -> io::Result<()> {
 
 fn main(rt: LibcRuntime) -> Result<(), AnyError> {
     let mut text = String::new(rt.alloc());
-    if rt.stdin().take(LONGEST_INPUT).read_to_string(&mut text).is_err() {
+    if rt.stdin()
+        .take(LONGEST_INPUT)
+        .read_to_string(&mut text)
+        .is_err() {
         println!(rt, "bad task: the input is no text")?;
         return Ok(());
     }

@@ -25,12 +25,14 @@ pub enum BadTask {
 
 pub impl fmt::Display for BadTask as BadTaskDisplay {
     fn fmt<W: fmt::Write>(&self, f: &mut fmt::Formatter<W>) -> fmt::Result {
-        f.write_str(match self {
-            BadTask::Words => "a task is two words, marks and agreement, as 11000000 6",
-            BadTask::Count => "a block has eight places, so there are eight marks",
-            BadTask::Mark => "a mark is 0, 1, * for both, or - for none",
-            BadTask::Agreement => "the agreement is a whole number",
-        })
+        f.write_str(
+            match self {
+                BadTask::Words => "a task is two words, marks and agreement, as 11000000 6",
+                BadTask::Count => "a block has eight places, so there are eight marks",
+                BadTask::Mark => "a mark is 0, 1, * for both, or - for none",
+                BadTask::Agreement => "the agreement is a whole number",
+            },
+        )
     }
 }
 

@@ -61,7 +61,7 @@ spanned F n h = record { count = span-length 0 n; below = span-below (F .size) 0
 
 module _ (F : Field) (L : Laws F) (n k : ℕ) (ps : List ℕ) (points : Points F n ps) where
   pub one-message : (x y : List ℕ) → isRow k (F .size) x ≡ true → isRow k (F .size) y ≡ true
-    → k ≤ hits (clean (word-at F ps x)) (word-at F ps y) → y ≡ x
+      → k ≤ hits (clean (word-at F ps x)) (word-at F ps y) → y ≡ x
   unfolding word-at
   one-message x y rx ry e =
       let agreed = kept-by (λ i. eqb (value F y i) (value F x i)) ps in
@@ -69,10 +69,10 @@ module _ (F : Field) (L : Laws F) (n k : ℕ) (ps : List ℕ) (points : Points F
       let lx = row-length k (F .size) x rx in
       let ly = row-length k (F .size) y ry in
       code-unique F L k y x agreed (every-each (F .size) y (row-every k (F .size) y ry)) (every-each (F .size) x (row-every k (F .size) x rx))
-        (each-kept (λ z. z < F .size) _ ps (points .below)) ly lx
-        (apart-kept _ ps (points .apart))
-        (omega arith)
-        (passed _ (λ z. value F y z ≡ value F x z) (λ z t. eqb-true _ _ t) ps)
+      (each-kept (λ z. z < F .size) _ ps (points .below)) ly lx
+      (apart-kept _ ps (points .apart))
+      (omega arith)
+      (passed _ (λ z. value F y z ≡ value F x z) (λ z t. eqb-true _ _ t) ps)
 
   value-below : (x : List ℕ) (i j : ℕ) → value-from F i j x < F .size
   value-below [] i j = let h = L .two in omega arith

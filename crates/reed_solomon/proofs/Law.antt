@@ -47,8 +47,8 @@ module _ (L : Limits) (lr : 1 ≤ L .multiplicity) (ly : 1 ≤ L .power) (ld : m
   unfolding listing
   clean-alone x r t lo hi =
       kept-one (F .size) k (λ y. leb t (hits (clean (word-at F ps x)) (word-at F ps y))) x r
-        (le-leb t _ (let s = hits-self (word-at F ps x) in let l = row-length n (F .size) _ (distance.word-row F laws n k ps points x) in omega arith))
-        (λ y ry e. distance.one-message F laws n k ps points x y r ry (let h = leb-true t _ e in let l = low in omega arith))
+      (le-leb t _ (let s = hits-self (word-at F ps x) in let l = row-length n (F .size) _ (distance.word-row F laws n k ps points x) in omega arith))
+      (λ y ry e. distance.one-message F laws n k ps points x y r ry (let h = leb-true t _ e in let l = low in omega arith))
 
   pub points-lawful : ListingRule (rs-at L F n ps k)
   points-lawful =
@@ -60,7 +60,14 @@ module _ (L : Limits) (lr : 1 ≤ L .multiplicity) (ly : 1 ≤ L .power) (ld : m
       let nh = fit .n-high in
       record {
         sizes = record {
-          q-low = omega arith; q-high = b; n-low = omega arith; n-high = omega arith; p-low = omega arith; p-high = b; k-low = k1; k-high = k2;
+          q-low = omega arith;
+          q-high = b;
+          n-low = omega arith;
+          n-high = omega arith;
+          p-low = omega arith;
+          p-high = b;
+          k-low = k1;
+          k-high = k2;
           least-low = (let l = low in omega arith);
           least-top = least.least-high L n k lr ly fits (fit .k-low) (fit .k-n);
         };

@@ -64,7 +64,7 @@ module _ (L : Limits) (n k : ℕ) where
 module _ (L : Limits) (n k : ℕ) where
   -- t + 1 is the least where t is out of reach, and k where all from k on are in reach
   pub least-here : (t : ℕ) → k ≤ t → t ≤ n → ((u : ℕ) → t ≤ u → u ≤ n → in-reach L (k - 1) u n ≡ true) → ((u : ℕ) → suc u ≡ t → k ≤ u → in-reach L (k - 1) u n ≡ false)
-    → t ≡ least-reach L n k
+      → t ≡ least-reach L n k
   least-here t lo hi on off =
       sym (least-is L n k t (record {
         low = lo;

@@ -86,8 +86,8 @@ module _ (words : List ℕ) (l : ℕ) (inside : l / 64 < length words) where
   there j ne =
       ⊎-elim
       (λ e.
-          let apart : j % 64 ≡ l % 64 → ⊥ = λ same. ne (sym (div-add-mod j 64) ∙ ap (λ x. 64 * x + j % 64) e ∙ ap (λ x. 64 * (l / 64) + x) same ∙ div-add-mod l 64) in
-          ap (λ w. bit w (j % 64)) (at-word j e) ∙ set-bit-other (getD words (l / 64) 0) (l % 64) (j % 64) apart ∙ ap (λ i. bit (getD words i 0) (j % 64)) (sym e))
+      let apart : j % 64 ≡ l % 64 → ⊥ = λ same. ne (sym (div-add-mod j 64) ∙ ap (λ x. 64 * x + j % 64) e ∙ ap (λ x. 64 * (l / 64) + x) same ∙ div-add-mod l 64) in
+      ap (λ w. bit w (j % 64)) (at-word j e) ∙ set-bit-other (getD words (l / 64) 0) (l % 64) (j % 64) apart ∙ ap (λ i. bit (getD words i 0) (j % 64)) (sym e))
       (λ d. ap (λ w. bit w (j % 64)) (getD-set-other words (l / 64) (j / 64) _ 0 d))
       (cases-eq (j / 64) (l / 64))
 
@@ -95,14 +95,14 @@ module _ (words : List ℕ) (l : ℕ) (inside : l / 64 < length words) where
   unfolding marked
   inserted =
       fun-ext (λ j.
-        ⊎-elim
-        (λ e. ap (λ b. eqb b 1) (here j e) ∙ or-true (eqb j l) _ (eq-eqb j l e))
-        (λ ne. ap (λ b. eqb b 1) (there j ne) ∙ or-false (eqb j l) _ (ne-eqb j l ne))
-        (cases-eq j l))
+      ⊎-elim
+      (λ e. ap (λ b. eqb b 1) (here j e) ∙ or-true (eqb j l) _ (eq-eqb j l e))
+      (λ ne. ap (λ b. eqb b 1) (there j ne) ∙ or-false (eqb j l) _ (ne-eqb j l ne))
+      (cases-eq j l))
 
 -- word by word, the words of a union
 four-or : (u v : List ℕ) → length u ≡ 4 → length v ≡ 4 → (i : ℕ)
-  → getD (bitOr (getD u 0 0) (getD v 0 0) ∷ bitOr (getD u 1 0) (getD v 1 0) ∷ bitOr (getD u 2 0) (getD v 2 0) ∷ bitOr (getD u 3 0) (getD v 3 0) ∷ []) i 0 ≡ bitOr (getD u i 0) (getD v i 0)
+    → getD (bitOr (getD u 0 0) (getD v 0 0) ∷ bitOr (getD u 1 0) (getD v 1 0) ∷ bitOr (getD u 2 0) (getD v 2 0) ∷ bitOr (getD u 3 0) (getD v 3 0) ∷ []) i 0 ≡ bitOr (getD u i 0) (getD v i 0)
 four-or u v hu hv zero = refl
 four-or u v hu hv (suc zero) = refl
 four-or u v hu hv (suc (suc zero)) = refl
@@ -119,10 +119,10 @@ either-bit (suc zero) (suc (suc y)) h k = absurd (omega arith)
 either-bit (suc (suc x)) y h k = absurd (omega arith)
 
 pub united : (u v : List ℕ) → length u ≡ 4 → length v ≡ 4
-  → marked (bitOr (getD u 0 0) (getD v 0 0) ∷ bitOr (getD u 1 0) (getD v 1 0) ∷ bitOr (getD u 2 0) (getD v 2 0) ∷ bitOr (getD u 3 0) (getD v 3 0) ∷ []) ≡ union (marked u) (marked v)
+    → marked (bitOr (getD u 0 0) (getD v 0 0) ∷ bitOr (getD u 1 0) (getD v 1 0) ∷ bitOr (getD u 2 0) (getD v 2 0) ∷ bitOr (getD u 3 0) (getD v 3 0) ∷ []) ≡ union (marked u) (marked v)
 unfolding marked
 united u v hu hv =
     fun-ext (λ l.
-      ap (λ w. eqb (bit w (l % 64)) 1) (four-or u v hu hv (l / 64))
-      ∙ ap (λ b. eqb b 1) (bit-or (getD u (l / 64) 0) (getD v (l / 64) 0) (l % 64))
-      ∙ either-bit (bit (getD u (l / 64) 0) (l % 64)) (bit (getD v (l / 64) 0) (l % 64)) (mod-lt _ (lit< tt)) (mod-lt _ (lit< tt)))
+    ap (λ w. eqb (bit w (l % 64)) 1) (four-or u v hu hv (l / 64))
+    ∙ ap (λ b. eqb b 1) (bit-or (getD u (l / 64) 0) (getD v (l / 64) 0) (l % 64))
+    ∙ either-bit (bit (getD u (l / 64) 0) (l % 64)) (bit (getD v (l / 64) 0) (l % 64)) (mod-lt _ (lit< tt)) (mod-lt _ (lit< tt)))

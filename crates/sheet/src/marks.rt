@@ -57,7 +57,9 @@ impl Marks {
     pub fn new() -> Marks
         ensures { λ r. ⌜ stands r ≡ none ⌝ }
     {
-        Marks { words: clear_words() }
+        Marks {
+            words: clear_words(),
+        }
     }
 
     // Whether the letter stands.
@@ -78,7 +80,9 @@ impl Marks {
     pub fn union(self, other: Marks) -> Marks
         ensures { λ r. ⌜ stands r ≡ union (stands self) (stands other) ⌝ }
     {
-        Marks { words: either_bits(self.words, other.words) }
+        Marks {
+            words: either_bits(self.words, other.words),
+        }
     }
 
     // How many letters stand.

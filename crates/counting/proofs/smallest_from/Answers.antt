@@ -17,7 +17,7 @@ loop-r-again c = λ i lo hi. ⊎-elim (λ e. ap (suits limits (c .args .v) (c .a
 pub returns-then-does-suit : need.returns-then-does-suit
 returns-then-does-suit c =
     sym (first-is (suits limits (c .args .v) (c .args .t) (c .args .load)) (c .args .first) (5 - c .args .first) (c .loop-r .r)
-      (record { low = c .loop-r .kept .r; high = omega (arith, c .loop-r-test .taken); passes = sym (c .if-does-suit .ensures tt); before = c .loop-r .inv }))
+    (record { low = c .loop-r .kept .r; high = omega (arith, c .loop-r-test .taken); passes = sym (c .if-does-suit .ensures tt); before = c .loop-r .inv }))
 
 pub returns : need.returns
 returns c = smallest-none (suits limits (c .args .v) (c .args .t) (c .args .load)) (c .args .first) (5 - c .args .first) (λ i lo hi. c .loop-r .inv i lo (omega (arith, c .loop-r-test .left)))

@@ -20,10 +20,9 @@ returns-in-None c =
 
 pub loop-letter-again : need.loop-letter-again
 loop-letter-again c =
-    let fits = fits-some (c .loop-letter .sum * (c .args .largest + 1) + getD (c .args .message .now) (c .loop-letter .letter-index) 0) (c .in-Some .more) (c .in-Some .ensures tt) in
-    (
+    let fits = fits-some (c .loop-letter .sum * (c .args .largest + 1) + getD (c .args .message .now) (c .loop-letter .letter-index) 0) (c .in-Some .more) (c .in-Some .ensures tt) in (
       ap (λ s. number-from (c .args .largest + 1) s (drop (c .loop-letter .letter-index + 1) (c .args .message .now))) (fits .0)
-      ∙ next (c .args .largest + 1) (c .loop-letter .sum) (c .loop-letter .letter-index) _ (c .args .message .now) (c .loop-letter-test .taken) (c .loop-letter .inv .0),
+          ∙ next (c .args .largest + 1) (c .loop-letter .sum) (c .loop-letter .letter-index) _ (c .args .message .now) (c .loop-letter-test .taken) (c .loop-letter .inv .0),
       omega (arith, fits .0, fits .1),
     )
 

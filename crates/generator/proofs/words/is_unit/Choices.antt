@@ -1,8 +1,7 @@
 use mathlib.Core.Path.{_≡_}
-use mathlib.Core.Bool.{true, cond}
-use lib.Dec.{eqb}
-use Rattle.generator.specs.Generator.{all-below, entry}
+use mathlib.Core.Bool.{true}
+use Rattle.generator.specs.Generator.{unit-row}
 use Rattle.generator.proofs.words.is_unit.Given as given
 
 abbrev pub Inv-loop-j : given.InvT-loop-j
-Inv-loop-j l = all-below (l .j) (λ j. eqb (entry (l .table) (l .n) (l .i) j) (cond (eqb (l .i) j) 1 0)) ≡ true
+Inv-loop-j l = unit-row (l .table) (l .n) (l .j) (l .i) ≡ true

@@ -1,5 +1,3 @@
-use mathlib.Core.Path.{_≡_, refl, sym, ap, ap₂, _∙_, subst}
-use Prim.Native.Nat.{ℕ, _<_, _≤_}
 use native.Mathlib.Omega.{arith}
 use lib.ListN.{length}
 use Rattle.code.proofs.Spans.{all-values}
@@ -10,4 +8,4 @@ pub returns : need.returns
 unfolding gen-word
 returns g c =
     all-values (λ j. letter (g .F·Field .means (c .args .field .now)) (c .args .table .now) (length (c .args .word .now)) (c .args .message .now) j) (c .loop-j .word) (length (c .args .word .now)) (c .loop-j .kept .word)
-      (λ k h. c .loop-j .inv k (omega (arith, c .loop-j-test .left, c .loop-j .kept .word)))
+    (λ k h. c .loop-j .inv k (omega (arith, c .loop-j-test .left, c .loop-j .kept .word)))
