@@ -67,7 +67,7 @@ fn sheet_of(word: &str) -> Result<[Marks; 8], BadTask> {
 
 impl Task {
     // The task that a text gives.
-    pub fn read(text: &str) -> Result<Task, BadTask> {
+    pub(crate) fn read(text: &str) -> Result<Task, BadTask> {
         let mut words = text.split_whitespace();
         let (Some(marks), Some(number), None) = (words.next(), words.next(), words.next()) else {
             return Err(BadTask::Words);
