@@ -1,7 +1,6 @@
 -- The product of polynomials is linear in each factor.
-use mathlib.Core.Path.{_≡_, refl, sym, ap, _∙_, subst}
-use Prim.Native.Nat.{ℕ, zero, suc, _+_, _-_, _*_, _/_, _%_, _^_, _≤_, _<_}
-use native.Mathlib.Nat.{}
+use mathlib.Core.Path.{_≡_, refl, ap, _∙_}
+use Prim.Native.Nat.{ℕ, zero, suc, _-_, _*_, _/_, _%_, _^_}
 use lib.Bits.{bitXor, xor-shr}
 use Rattle.algebra.specs.Binary.{times-x, times}
 use Rattle.algebra.proofs.Xor.{shuffle, low-mul, times-low, double}

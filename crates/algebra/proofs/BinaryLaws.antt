@@ -1,18 +1,18 @@
 -- The fields of 2^m elements: one proof over m and the modulus, from the tests.
 use mathlib.Core.Path.{_≡_, refl, sym, ap, _∙_, subst}
-use mathlib.Core.Bool.{Bool, true, false, _&&_, _||_}
-use mathlib.Core.Logic.{_⊎_, inl, inr, ⊎-elim}
-use Prim.Native.Nat.{ℕ, zero, suc, _+_, _-_, _*_, _/_, _%_, _^_, _≤_, _<_}
-use native.Mathlib.Nat.{zero-mul, one-mul, zero-div, zero-mod, mul-zero}
+use mathlib.Core.Bool.{_||_}
+use mathlib.Core.Logic.{_⊎_, ⊎-elim}
+use Prim.Native.Nat.{ℕ, zero, suc, _-_, _*_, _/_, _%_, _^_, _≤_, _<_}
+use native.Mathlib.Nat.{zero-mul, one-mul}
 use native.Mathlib.Omega.{arith}
 use lib.Dec.{T, eqb, leb, ltb, eqb→eq, leb→le, ltb→lt}
-use lib.Bits.{bitXor, xor-lt, xor-zero-r, xor-zero-l, xor-self, xor-comm, xor-assoc}
+use lib.Bits.{bitXor, xor-lt, xor-zero-r, xor-self, xor-comm, xor-assoc}
 use lib.Pow.{pow-pos, pow-mono}
 use Rattle.algebra.specs.Field.{Laws}
 use Rattle.algebra.specs.Listed.{exponents, is-exponent}
 use Rattle.algebra.specs.Binary.{times, times-x, modulus, binary}
 use Rattle.algebra.proofs.Codes.{Codes, in-field}
-use Rattle.algebra.proofs.Tests.{and-left, and-right, or-cases, all-below, below-at, all-of, of-at}
+use Rattle.algebra.proofs.Tests.{and-left, and-right, or-cases, all-below, below-at, of-at}
 use Rattle.algebra.proofs.Xor.{by-bits, bit}
 use Rattle.algebra.proofs.Bilinear.{x-linear, left-linear, right-linear}
 use Rattle.algebra.proofs.BinarySound.{powers, power, bounds-test, below-test, one-test, comm-test, assoc-test, inverse-test, bounds-pass, below-pass, one-pass, comm-pass, assoc-pass, inverse-pass}
@@ -24,7 +24,7 @@ module _ (m g : ℕ) (bounds : T (bounds-test m)) (below : T (below-test m g)) (
   pos : 0 < 2 ^ m
   pos = pow-pos m
 
-  -- zero on either side, from linearity
+  -- Zero on either side, from linearity.
   left-zero : (b : ℕ) → times m g m 0 b ≡ 0
   left-zero b = left-linear m g m 0 0 b ∙ xor-self (times m g m 0 b)
 
@@ -51,7 +51,7 @@ module _ (m g : ℕ) (bounds : T (bounds-test m)) (below : T (below-test m g)) (
   mul-below : (a b : ℕ) → a < 2 ^ m → b < 2 ^ m → times m g m a b < 2 ^ m
   mul-below a b ha _ = some-below m a b ha
 
-  -- two maps that keep sums and agree at single bits agree
+  -- Two maps that keep sums and agree at single bits agree.
   agree : (f h : ℕ → ℕ) → f 0 ≡ h 0 → ((i : ℕ) → i < m → f (2 ^ i) ≡ h (2 ^ i))
       → ((x y : ℕ) → f (bitXor x y) ≡ bitXor (f x) (f y)) → ((x y : ℕ) → h (bitXor x y) ≡ bitXor (h x) (h y))
       → (a : ℕ) → a < 2 ^ m → f a ≡ h a
@@ -81,7 +81,7 @@ module _ (m g : ℕ) (bounds : T (bounds-test m)) (below : T (below-test m g)) (
       (below-at (λ j. all-below (λ k. eqb (times m g m (times m g m (2 ^ i) (2 ^ j)) (2 ^ k)) (times m g m (2 ^ i) (times m g m (2 ^ j) (2 ^ k)))) m) m
       (below-at (λ i. all-below (λ j. all-below (λ k. eqb (times m g m (times m g m (2 ^ i) (2 ^ j)) (2 ^ k)) (times m g m (2 ^ i) (times m g m (2 ^ j) (2 ^ k)))) m) m) m assoc i hi) j hj) k hk)
 
-  -- three factors: a sum in the first, the second or the third
+  -- Three factors: a sum in the first, the second or the third.
   first-sum : (b c x y : ℕ) → times m g m (times m g m (bitXor x y) b) c ≡ bitXor (times m g m (times m g m x b) c) (times m g m (times m g m y b) c)
   first-sum b c x y = ap (λ z. times m g m z c) (left-linear m g m x y b) ∙ left-linear m g m (times m g m x b) (times m g m y b) c
 

@@ -1,19 +1,19 @@
 -- From codes to elements and back: what a code stands for carries curves, conditions and steps along,
 -- and a code below the size that stands for zero is zero.
-use mathlib.Core.Path.{_≡_, refl, sym, _∙_, ap, ap₂, subst, fun-ext}
+use mathlib.Core.Path.{_≡_, refl, sym, _∙_, ap, ap₂, fun-ext}
 use mathlib.Core.Bool.{Bool, true, false, cond}
-use mathlib.Core.Logic.{_≢_, _⊎_, inl, inr, ⊎-elim}
+use mathlib.Core.Logic.{_⊎_, inl, inr, ⊎-elim}
 use mathlib.Core.List.{List, [], _∷_, map}
-use Prim.Native.Nat.{ℕ, zero, suc, _+_, _*_, _-_, _≤_, _<_}
+use Prim.Native.Nat.{ℕ, zero, suc, _+_, _-_, _≤_, _<_}
 use native.Mathlib.Omega.{arith}
 use lib.Dec.{eqb}
 use Rattle.std.proofs.shelf.Tests.{eqb-true}
-use Rattle.algebra.specs.Ring.{Ops, CommRing, Field}
+use Rattle.algebra.specs.Ring.{Ops}
 use Rattle.algebra.specs.Field.{Meaning, Laws, codes}
 use Rattle.algebra.specs.Polynomial.{value}
 use Rattle.algebra.specs.Series.{ev, poly, series, coefficients}
 use Rattle.algebra.specs.Curve.{Table, sum, hasse, dot, discrepancy, Through, Degree-below, Nonzero, row, Zero-at, Lies}
-use Rattle.algebra.specs.Interpolation.{Conditions, All, Upto, Column, Same, linear, mix, Good, Inv, Step, Fitted}
+use Rattle.algebra.specs.Interpolation.{Conditions, All, Upto, Column, mix, Inv, Step, Fitted}
 use Rattle.algebra.specs.Recovery.{one-if, agreed}
 use Rattle.algebra.specs.CodeRecovery.{Coded, Coded-table, at, passed}
 use Rattle.algebra.proofs.Elements.{Element, decode, field, code-decode, decode-sum, decode-difference, decode-product, decode-zero, decode-one}
@@ -21,6 +21,10 @@ use Rattle.algebra.proofs.Values.{by-horner}
 use Rattle.algebra.proofs.Homomorphism.{Hom, image, hom-ev, hom-series, hom-coefficients, hom-row, hom-hasse, hom-discrepancy, hom-linear, hom-mix}
 
 module _ (F : Meaning) (L : Laws F) where
+  -- The operations on codes; the elements, their operations, and the element that a code stands for.
+  abbrev pub C : Ops ℕ
+  C = codes F
+
   abbrev pub K : Type 0
   K = Element (F .size)
 
@@ -30,16 +34,17 @@ module _ (F : Meaning) (L : Laws F) where
   abbrev pub δ : ℕ → Element (F .size)
   δ = decode F L
 
-  pub decode-hom : Hom (codes F) P δ
+  pub decode-hom : Hom C P δ
   decode-hom = record { on-zero = decode-zero F L; on-one = decode-one F L; on-add = decode-sum F L; on-sub = decode-difference F L; on-mul = decode-product F L }
 
   -- The curve of the elements.
   abbrev pub elements : Table ℕ → Table (Element (F .size))
-  elements = image (codes F) P δ decode-hom
+  elements = image decode-hom
 
   pub some : 0 < F .size
   some = let h = L .two in omega arith
 
+  -- Codes below the size are told apart by what they stand for.
   pub same-code : (a b : ℕ) → a < F .size → b < F .size → δ a ≡ δ b → a ≡ b
   same-code a b ha hb e = sym (code-decode F L a ha) ∙ ap (λ (x : K). x .code) e ∙ code-decode F L b hb
 
@@ -59,7 +64,7 @@ module _ (F : Meaning) (L : Laws F) where
 
   -- Values, and how often a polynomial passes through the pairs.
   pub value-is : (f : List ℕ) (x : ℕ) → δ (value F f x) ≡ ev P (map δ f) (δ x)
-  value-is f x = ap δ (sym (by-horner F L f x)) ∙ hom-ev (codes F) P δ decode-hom f x
+  value-is f x = ap δ (sym (by-horner F L f x)) ∙ hom-ev decode-hom f x
 
   counted : {Q : Type 0} (d : Dec Q) (b : Bool) (m n : ℕ) → (b ≡ true → Q) → m ≤ n → m + cond b 1 0 ≤ n + one-if d
   counted (yes q) true m n h l = omega arith
@@ -70,63 +75,65 @@ module _ (F : Meaning) (L : Laws F) where
   pub passed-agreed : (f xs ys : List ℕ) (n : ℕ) → passed F f xs ys n ≤ agreed (field F L) (map δ f) (λ t. δ (at xs t)) (λ t. δ (at ys t)) n
   passed-agreed f xs ys zero = omega arith
   passed-agreed f xs ys (suc n) =
-      counted (field F L .same (ev P (map δ f) (δ (at xs n))) (δ (at ys n))) (eqb (value F f (at xs n)) (at ys n)) (passed F f xs ys n) (agreed (field F L) (map δ f) (λ t. δ (at xs t)) (λ t. δ (at ys t)) n)
+      counted (field F L .same (ev P (map δ f) (δ (at xs n))) (δ (at ys n))) (eqb (value F f (at xs n)) (at ys n)) (passed F f xs ys n) _
       (λ e. sym (value-is f (at xs n)) ∙ ap δ (eqb-true _ _ e)) (passed-agreed f xs ys n)
 
   -- Polynomials on a curve.
-  series-is : (X Y : ℕ) (c : Table ℕ) (f : List ℕ) (i : ℕ) → δ (poly (series (codes F)) Y (row (codes F) X c) (coefficients (codes F) f) i) ≡ poly (series P) Y (row P X (elements c)) (coefficients P (map δ f)) i
+  series-is : (X Y : ℕ) (c : Table ℕ) (f : List ℕ) (i : ℕ) →
+      δ (poly (series C) Y (row C X c) (coefficients C f) i) ≡ poly (series P) Y (row P X (elements c)) (coefficients P (map δ f)) i
   series-is X Y c f i =
-      hom-series (codes F) P δ decode-hom Y (row (codes F) X c) (coefficients (codes F) f) i
-      ∙ ap₂ (λ p y. poly (series P) Y p y i) (fun-ext (λ j. fun-ext (hom-row (codes F) P δ decode-hom X c j))) (fun-ext (hom-coefficients (codes F) P δ decode-hom f))
+      hom-series decode-hom Y (row C X c) (coefficients C f) i
+      ∙ ap₂ (λ p y. poly (series P) Y p y i) (fun-ext (λ j. fun-ext (hom-row decode-hom X c j))) (fun-ext (hom-coefficients decode-hom f))
 
-  series-below : (Y : ℕ) (p : ℕ → ℕ → ℕ) (y : ℕ → ℕ) (i : ℕ) → poly (series (codes F)) Y p y i < F .size
+  series-below : (Y : ℕ) (p : ℕ → ℕ → ℕ) (y : ℕ → ℕ) (i : ℕ) → poly (series C) Y p y i < F .size
   series-below zero p y i = some
   series-below (suc Y) p y i = L .sum-below _ _
 
-  pub lies-up : (X Y : ℕ) (c : Table ℕ) (f : List ℕ) → Lies (codes F) X Y c f → Lies P X Y (elements c) (map δ f)
+  pub lies-up : (X Y : ℕ) (c : Table ℕ) (f : List ℕ) → Lies C X Y c f → Lies P X Y (elements c) (map δ f)
   unfolding Zero-at
   lies-up X Y c f z = fun-ext (λ i. sym (series-is X Y c f i) ∙ code-zero _ (λ k. z k i))
 
-  pub lies-down : (X Y : ℕ) (c : Table ℕ) (f : List ℕ) → Lies P X Y (elements c) (map δ f) → Lies (codes F) X Y c f
+  pub lies-down : (X Y : ℕ) (c : Table ℕ) (f : List ℕ) → Lies P X Y (elements c) (map δ f) → Lies C X Y c f
   unfolding Zero-at
   lies-down X Y c f z = fun-ext (λ i. zero-code _ (series-below Y _ _ i) (series-is X Y c f i ∙ (λ k. z k i)))
 
   -- Degrees and multiplicities.
-  pub degree-up : (X Y v m : ℕ) (c : Table ℕ) → Degree-below (codes F) X Y v m c → Degree-below P X Y v m (elements c)
+  pub degree-up : (X Y v m : ℕ) (c : Table ℕ) → Degree-below C X Y v m c → Degree-below P X Y v m (elements c)
   degree-up X Y v m c low i j hi hj o = code-zero (c i j) (low i j hi hj o)
 
-  pub degree-down : (X Y v m : ℕ) (c : Table ℕ) → Coded-table F c → Degree-below P X Y v m (elements c) → Degree-below (codes F) X Y v m c
+  pub degree-down : (X Y v m : ℕ) (c : Table ℕ) → Coded-table F c → Degree-below P X Y v m (elements c) → Degree-below C X Y v m c
   degree-down X Y v m c coded low i j hi hj o = zero-code (c i j) (coded i j) (low i j hi hj o)
 
-  pub nonzero-up : (X Y : ℕ) (c : Table ℕ) → Coded-table F c → Nonzero (codes F) X Y c → Nonzero P X Y (elements c)
+  pub nonzero-up : (X Y : ℕ) (c : Table ℕ) → Coded-table F c → Nonzero C X Y c → Nonzero P X Y (elements c)
   nonzero-up X Y c coded n = (n .0, n .1, n .2, n .3, λ e. n .4 (zero-code _ (coded (n .0) (n .1)) e))
 
-  sum-below : (n : ℕ) (f : ℕ → ℕ) → sum (codes F) n f < F .size
+  sum-below : (n : ℕ) (f : ℕ → ℕ) → sum C n f < F .size
   unfolding sum
   sum-below zero f = some
   sum-below (suc n) f = L .sum-below _ _
 
-  pub through-up : (X Y r N : ℕ) (xs ys : ℕ → ℕ) (c : Table ℕ) → Through (codes F) X Y r N xs ys c → Through P X Y r N (λ t. δ (xs t)) (λ t. δ (ys t)) (elements c)
-  through-up X Y r N xs ys c h t l u w s = sym (hom-hasse (codes F) P δ decode-hom X Y (xs t) (ys t) u w c) ∙ code-zero _ (h t l u w s)
+  pub through-up : (X Y r N : ℕ) (xs ys : ℕ → ℕ) (c : Table ℕ) → Through C X Y r N xs ys c → Through P X Y r N (λ t. δ (xs t)) (λ t. δ (ys t)) (elements c)
+  through-up X Y r N xs ys c h t l u w s = sym (hom-hasse decode-hom X Y (xs t) (ys t) u w c) ∙ code-zero _ (h t l u w s)
 
-  pub fitted-down : (X Y v D r N : ℕ) (xs ys : ℕ → ℕ) (c : Table ℕ) → Coded-table F c → Fitted P X Y v D r N (λ t. δ (xs t)) (λ t. δ (ys t)) (elements c) → Fitted (codes F) X Y v D r N xs ys c
+  pub fitted-down : (X Y v D r N : ℕ) (xs ys : ℕ → ℕ) (c : Table ℕ) → Coded-table F c →
+      Fitted P X Y v D r N (λ t. δ (xs t)) (λ t. δ (ys t)) (elements c) → Fitted C X Y v D r N xs ys c
   unfolding hasse
   fitted-down X Y v D r N xs ys c coded h =
       let n = h .some in
       record {
         some = (n .0, n .1, n .2, n .3, λ e. n .4 (code-zero _ e));
         within = degree-down X Y v (suc D) c coded (h .within);
-        through = λ t l u w s. zero-code _ (sum-below Y _) (hom-hasse (codes F) P δ decode-hom X Y (xs t) (ys t) u w c ∙ h .through t l u w s);
+        through = λ t l u w s. zero-code _ (sum-below Y _) (hom-hasse decode-hom X Y (xs t) (ys t) u w c ∙ h .through t l u w s);
       }
 
   -- The discrepancies.
-  discrepancy-is : (X Y : ℕ) (a b u w : ℕ) (c : Table ℕ) → δ (discrepancy (codes F) X Y a b u w c) ≡ discrepancy P X Y (δ a) (δ b) u w (elements c)
-  discrepancy-is = hom-discrepancy (codes F) P δ decode-hom
+  discrepancy-is : (X Y : ℕ) (a b u w : ℕ) (c : Table ℕ) → δ (discrepancy C X Y a b u w c) ≡ discrepancy P X Y (δ a) (δ b) u w (elements c)
+  discrepancy-is = hom-discrepancy decode-hom
 
-  met-up : (X Y : ℕ) (a b u w : ℕ) (c : Table ℕ) → discrepancy (codes F) X Y a b u w c ≡ 0 → discrepancy P X Y (δ a) (δ b) u w (elements c) ≡ P .zero
+  met-up : (X Y : ℕ) (a b u w : ℕ) (c : Table ℕ) → discrepancy C X Y a b u w c ≡ 0 → discrepancy P X Y (δ a) (δ b) u w (elements c) ≡ P .zero
   met-up X Y a b u w c e = sym (discrepancy-is X Y a b u w c) ∙ code-zero _ e
 
-  met-down : (X Y : ℕ) (a b u w : ℕ) (c : Table ℕ) → discrepancy P X Y (δ a) (δ b) u w (elements c) ≡ P .zero → discrepancy (codes F) X Y a b u w c ≡ 0
+  met-down : (X Y : ℕ) (a b u w : ℕ) (c : Table ℕ) → discrepancy P X Y (δ a) (δ b) u w (elements c) ≡ P .zero → discrepancy C X Y a b u w c ≡ 0
   unfolding discrepancy dot
   met-down X Y a b u w c e = zero-code _ (sum-below Y _) (discrepancy-is X Y a b u w c ∙ e)
 
@@ -153,9 +160,9 @@ module _ (F : Meaning) (L : Laws F) where
     from = λ a b u w s. ⊎-elim (λ q. let e = h .from a b u w q in (e .0, e .1, e .2, e .3, inl (e .4))) (λ q. (a₀, b₀, q .0, q .1, inr (refl, refl, q .2, q .3))) s;
   }
 
-  -- The table's invariant.
+  -- The invariant of the interpolation.
   module _ (X Y v D : ℕ) (S : Conditions ℕ) (T : Conditions (Element (F .size))) (alike : Alike S T) (n : ℕ) (curves : ℕ → Table ℕ) (lead : ℕ → ℕ) (coded : (j : ℕ) → Coded-table F (curves j)) where
-    pub inv-up : Inv (codes F) X Y v D S n curves lead → Inv P X Y v D T n (λ j. elements (curves j)) lead
+    pub inv-up : Inv C X Y v D S n curves lead → Inv P X Y v D T n (λ j. elements (curves j)) lead
     inv-up h = record {
       good = λ j l lv. let g = h .good j l lv in record {
         kept = λ a b u w q.
@@ -167,7 +174,7 @@ module _ (F : Meaning) (L : Laws F) where
       count = h .count;
     }
 
-    pub inv-down : Inv P X Y v D T n (λ j. elements (curves j)) lead → Inv (codes F) X Y v D S n curves lead
+    pub inv-down : Inv P X Y v D T n (λ j. elements (curves j)) lead → Inv C X Y v D S n curves lead
     inv-down h = record {
       good = λ j l lv. let g = h .good j l lv in record {
         kept = λ a b u w q. met-down X Y a b u w (curves j) (g .kept (δ a) (δ b) u w (alike .into a b u w q));
@@ -177,9 +184,9 @@ module _ (F : Meaning) (L : Laws F) where
       count = h .count;
     }
 
-  -- A step.
+  -- A step of the interpolation.
   pub step-up : (X Y v D a b u w p : ℕ) (curves : ℕ → Table ℕ) (lead : ℕ → ℕ) (curves′ : ℕ → Table ℕ) (lead′ : ℕ → ℕ)
-      → Step (codes F) X Y v D a b u w p curves lead curves′ lead′ → Step P X Y v D (δ a) (δ b) u w p (λ j. elements (curves j)) lead (λ j. elements (curves′ j)) lead′
+      → Step C X Y v D a b u w p curves lead curves′ lead′ → Step P X Y v D (δ a) (δ b) u w p (λ j. elements (curves j)) lead (λ j. elements (curves′ j)) lead′
   step-up X Y v D a b u w p curves lead curves′ lead′ s = record {
     in-table = s .in-table;
     live = s .live;
@@ -187,13 +194,13 @@ module _ (F : Meaning) (L : Laws F) where
     least = λ j l lv ne. s .least j l lv (λ z. ne (met-up X Y a b u w (curves j) z));
     moved = s .moved;
     stay = s .stay;
-    lifted = λ l i k h₁ h₂. ap δ (s .lifted l i k h₁ h₂) ∙ hom-linear (codes F) P δ decode-hom a (curves p) i k;
+    lifted = λ l i k h₁ h₂. ap δ (s .lifted l i k h₁ h₂) ∙ hom-linear decode-hom a (curves p) i k;
     others = λ j l ne lv. ⊎-elim
         (λ t. inl (met-up X Y a b u w (curves j) (t .0), λ i k h₁ h₂. ap δ (t .1 i k h₁ h₂)))
         (λ t. inr (
           (λ z. t .0 (met-down X Y a b u w (curves j) z)),
           λ i k h₁ h₂.
-              ap δ (t .1 i k h₁ h₂) ∙ hom-mix (codes F) P δ decode-hom _ (curves j) _ (curves p) i k
+              ap δ (t .1 i k h₁ h₂) ∙ hom-mix decode-hom _ (curves j) _ (curves p) i k
               ∙ ap₂ (λ d e. mix P d (elements (curves j)) e (elements (curves p)) i k) (discrepancy-is X Y a b u w (curves p)) (discrepancy-is X Y a b u w (curves j)),
         ))
         (s .others j l ne lv);

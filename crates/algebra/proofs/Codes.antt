@@ -1,13 +1,13 @@
 -- A field from laws of its operations on codes below the size.
-use mathlib.Core.Path.{_≡_, refl, sym, ap, _∙_, subst}
-use mathlib.Core.Bool.{Bool, true, false, cond}
-use Prim.Native.Nat.{ℕ, zero, suc, _+_, _≤_, _<_}
+use mathlib.Core.Path.{_≡_, sym, ap, _∙_, subst}
+use Prim.Native.Nat.{ℕ, _≤_, _<_}
 use native.Mathlib.Nat.{zero-add}
 use native.Mathlib.Omega.{arith}
 use lib.Dec.{T, eqb, eqb→eq, eqb-refl}
-use Rattle.algebra.specs.Field.{Meaning, Laws, field-of, read, first}
+use Rattle.algebra.specs.Field.{Laws, field-of, read, first}
 use Rattle.algebra.proofs.FirstFound.{read-below, read-lt, found, first-below, none}
 
+-- What a field of q codes needs of its sum s, difference d and product p on codes below q.
 pub record Codes (q : ℕ) (s d p : ℕ → ℕ → ℕ) : Type 0 where
   pub small : q ≤ 256
   pub two : 1 < q

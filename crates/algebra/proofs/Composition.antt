@@ -6,9 +6,10 @@ use Prim.Native.Nat.{ℕ, zero, suc, _+_, _-_, _≤_, _<_, max}
 use native.Mathlib.Omega.{arith}
 use lib.ListN.{length}
 use Rattle.algebra.specs.Ring.{Ops, CommRing}
-use Rattle.algebra.specs.Series.{AllZero, const, 𝕏, coefficients, series}
+use Rattle.algebra.specs.Series.{AllZero, const, 𝕏, coefficients}
 use Rattle.algebra.proofs.Ring as Ring
 use Rattle.algebra.proofs.Ring.{ring}
+use Rattle.algebra.proofs.Horner.{horner-add, horner-scale}
 use Rattle.algebra.proofs.Series.{𝓢, const-zero, const-add, const-mul, x-mul}
 
 -- Weighted degree below m, with the weight v of y: the row j has at most m - v j coefficients.
@@ -17,24 +18,27 @@ Fits v m [] = Unit {0}
 Fits v m (q ∷ Q) = (length q ≤ m) × Fits v (m - v) Q
 
 module _ {R : Type 0} (O : Ops R) where
-  open Ops O using (zero as 𝟘, add as _⊕_, mul as _⊗_)
-
   infixl 60 _⊕_
   infixl 70 _⊗_
+  open Ops O using (zero as 𝟘, add as _⊕_, mul as _⊗_)
+
+  -- The sum of two polynomials.
   abbrev pub padd : List R → List R → List R
   padd [] q = q
   padd (c ∷ p) [] = c ∷ p
   padd (c ∷ p) (d ∷ q) = (c ⊕ d) ∷ padd p q
 
+  -- A multiple of a polynomial.
   abbrev pub scale : R → List R → List R
   scale c [] = []
   scale c (d ∷ p) = c ⊗ d ∷ scale c p
 
+  -- The product of two polynomials.
   abbrev pub pmul : List R → List R → List R
   pmul f [] = []
   pmul f (d ∷ p) = padd (scale d f) (𝟘 ∷ pmul f p)
 
-  -- f put for y.
+  -- The polynomial f put for y, by Horner's rule.
   abbrev pub comp : List (List R) → List R → List R
   comp [] f = []
   comp (q ∷ Q) f = padd q (pmul f (comp Q f))
@@ -67,46 +71,40 @@ module _ {R : Type 0} (𝓡 : CommRing R) where
 
 -- Ring equations that the inductions below cite.
 module _ {R : Type 0} (𝓡 : CommRing R) where
-  open CommRing 𝓡 using (ops as O)
-  open Ops (𝓡 .ops) using (zero as 𝟘, one as 𝟙, add as _⊕_, mul as _⊗_)
-
   infixl 60 _⊕_
   infixl 70 _⊗_
-  add-step : (k c d s x p q : R) → k ≡ c ⊕ d → x ≡ p ⊕ q → k ⊕ s ⊗ x ≡ (c ⊕ s ⊗ p) ⊕ (d ⊕ s ⊗ q)
-  add-step k c d s x p q e f = (λ i. e i ⊕ s ⊗ f i) ∙ simp (ring, 𝓡)
-
-  scale-step : (k c d s x p : R) → k ≡ c ⊗ d → x ≡ c ⊗ p → k ⊕ s ⊗ x ≡ c ⊗ (d ⊕ s ⊗ p)
-  scale-step k c d s x p e f = (λ i. e i ⊕ s ⊗ f i) ∙ simp (ring, 𝓡)
+  open CommRing 𝓡 using (ops as O)
+  open Ops (𝓡 .ops) using (zero as 𝟘, one as 𝟙, add as _⊕_, mul as _⊗_)
 
   mul-step : (d f z s x p : R) → z ≡ 𝟘 → x ≡ f ⊗ p → d ⊗ f ⊕ (z ⊕ s ⊗ x) ≡ f ⊗ (d ⊕ s ⊗ p)
   mul-step d f z s x p e g = (λ i. d ⊗ f ⊕ (e i ⊕ s ⊗ g i)) ∙ simp (ring, 𝓡)
 
 module _ {K : Type 0} (𝓚 : CommRing K) where
+  infixl 60 _⊕_ _⊞_
+  infixl 70 _⊗_ _⊠_
   open CommRing 𝓚 using (ops as O)
   open Ops (𝓚 .ops) using (zero as 𝟘, one as 𝟙, add as _⊕_, mul as _⊗_)
   open Ops (𝓢 𝓚 .ops) using (zero as ∅, add as _⊞_, mul as _⊠_)
 
-  infixl 60 _⊕_ _⊞_
-  infixl 70 _⊗_ _⊠_
   -- The value of a polynomial at a series, and of a curve at two.
   abbrev pub evS : List K → (ℕ → K) → ℕ → K
   evS [] s = ∅
   evS (c ∷ q) s = const O c ⊞ s ⊠ evS q s
 
-  abbrev pub ev2 : List (List K) → (ℕ → K) → (ℕ → K) → ℕ → K
-  ev2 [] s y = ∅
-  ev2 (q ∷ Q) s y = evS q s ⊞ y ⊠ ev2 Q s y
+  abbrev pub ev₂ : List (List K) → (ℕ → K) → (ℕ → K) → ℕ → K
+  ev₂ [] s y = ∅
+  ev₂ (q ∷ Q) s y = evS q s ⊞ y ⊠ ev₂ Q s y
 
   pub evS-padd : (p q : List K) (s : ℕ → K) → evS (padd O p q) s ≡ evS p s ⊞ evS q s
   evS-padd [] q s = sym (Ring.zero-add (𝓢 𝓚) (evS q s))
   evS-padd (c ∷ p) [] s = sym (Ring.add-zero (𝓢 𝓚) (evS (c ∷ p) s))
   evS-padd (c ∷ p) (d ∷ q) s =
-      add-step (𝓢 𝓚) (const O (c ⊕ d)) (const O c) (const O d) s (evS (padd O p q) s) (evS p s) (evS q s) (const-add 𝓚 c d) (evS-padd p q s)
+      horner-add (𝓢 𝓚) (const O (c ⊕ d)) (const O c) (const O d) s (evS (padd O p q) s) (evS p s) (evS q s) (const-add 𝓚 c d) (evS-padd p q s)
 
   pub evS-scale : (c : K) (p : List K) (s : ℕ → K) → evS (scale O c p) s ≡ const O c ⊠ evS p s
   evS-scale c [] s = sym (Ring.mul-zero (𝓢 𝓚) (const O c))
   evS-scale c (d ∷ p) s =
-      scale-step (𝓢 𝓚) (const O (c ⊗ d)) (const O c) (const O d) s (evS (scale O c p) s) (evS p s) (const-mul 𝓚 c d) (evS-scale c p s)
+      horner-scale (𝓢 𝓚) (const O (c ⊗ d)) (const O c) (const O d) s (evS (scale O c p) s) (evS p s) (const-mul 𝓚 c d) (evS-scale c p s)
 
   evS-pmul : (f p : List K) (s : ℕ → K) → evS (pmul O f p) s ≡ evS f s ⊠ evS p s
   evS-pmul f [] s = sym (Ring.mul-zero (𝓢 𝓚) (evS f s))
@@ -115,7 +113,7 @@ module _ {K : Type 0} (𝓚 : CommRing K) where
       ∙ ap (λ x. x ⊞ evS (𝟘 ∷ pmul O f p) s) (evS-scale d f s)
       ∙ mul-step (𝓢 𝓚) (const O d) (evS f s) (const O 𝟘) s (evS (pmul O f p) s) (evS p s) (const-zero 𝓚) (evS-pmul f p s)
 
-  pub evS-comp : (Q : List (List K)) (f : List K) (s : ℕ → K) → evS (comp O Q f) s ≡ ev2 Q s (evS f s)
+  pub evS-comp : (Q : List (List K)) (f : List K) (s : ℕ → K) → evS (comp O Q f) s ≡ ev₂ Q s (evS f s)
   evS-comp [] f s = refl
   evS-comp (q ∷ Q) f s =
       evS-padd q (pmul O f (comp O Q f)) s

@@ -1,11 +1,10 @@
 -- The derivatives are linear in the curve, and what the factor x - a does to them.
 use mathlib.Core.Path.{_≡_, refl, sym, ap, _∙_}
-use Prim.Native.Nat.{ℕ, zero, suc, _<_, _≤_}
-use native.Mathlib.Omega.{arith}
+use Prim.Native.Nat.{ℕ, zero, suc, _<_}
 use Rattle.algebra.specs.Ring.{Ops, CommRing}
 use Rattle.algebra.specs.Curve.{Table, sum, weight, dot, discrepancy}
 use Rattle.algebra.specs.Interpolation.{Same, up, linear, mix}
-use Rattle.algebra.proofs.Ring.{ring, signed, neg, mul-zero, zero-add}
+use Rattle.algebra.proofs.Ring.{ring, signed, neg, mul-zero}
 use Rattle.algebra.proofs.Sums.{sum-ext, sum-zero, sum-add, sum-mul, sum-front}
 
 module _ {K : Type 0} (O : Ops K) where
@@ -18,11 +17,12 @@ module _ {K : Type 0} (O : Ops K) where
   discrepancy-same X Y a b u w c e h = dot-ext Y _ _ _ (λ j l. dot-ext X _ _ _ (λ i k. h i j k l))
 
 module _ {K : Type 0} (𝓚 : CommRing K) where
+  infixl 60 _⊕_ _⊖_
+  infixl 70 _⊗_
   open CommRing 𝓚 using (ops as O)
   open Ops (𝓚 .ops) using (zero as 𝟘, one as 𝟙, add as _⊕_, sub as _⊖_, mul as _⊗_)
 
-  infixl 60 _⊕_ _⊖_
-  infixl 70 _⊗_
+  -- Shorter names.
   abbrev Σ : ℕ → (ℕ → K) → K
   Σ = sum O
 
@@ -58,7 +58,7 @@ module _ {K : Type 0} (𝓚 : CommRing K) where
   below X a zero f = 𝟘
   below X a (suc u) f = · X (W a u) f
 
-  -- x f, the last coefficient of f being zero.
+  -- A sum over x f, the last coefficient of f being zero.
   dot-up : (m : ℕ) (h f : ℕ → K) → f m ≡ 𝟘 → · (suc m) h (up O f) ≡ · (suc m) (λ i. h (suc i)) f
   unfolding dot up sum
   dot-up m h f top =

@@ -1,8 +1,8 @@
 -- Synthetic division by x - a, and roots with their orders: a polynomial with more roots than its length allows is zero.
 use mathlib.Core.Path.{_≡_, refl, sym, _∙_, ap, subst}
 use mathlib.Core.List.{List, [], _∷_}
-use Prim.Native.Nat.{ℕ, zero, suc, _+_, _-_, _*_, _≤_}
-use native.Mathlib.Nat.{mul-suc, mul-zero, not-suc-le-zero}
+use Prim.Native.Nat.{ℕ, zero, suc, _-_, _*_, _≤_}
+use native.Mathlib.Nat.{mul-zero, not-suc-le-zero}
 use native.Mathlib.Omega.{arith}
 use lib.ListN.{length}
 use Rattle.algebra.specs.Ring.{Ops, CommRing}
@@ -12,10 +12,10 @@ use Rattle.algebra.proofs.Ring as Ring
 use Rattle.algebra.proofs.Ring.{via, ring}
 
 module _ {R : Type 0} (O : Ops R) where
-  open Ops O using (zero as 𝟘, add as _⊕_, mul as _⊗_)
-
   infixl 60 _⊕_
   infixl 70 _⊗_
+  open Ops O using (zero as 𝟘, add as _⊕_, mul as _⊗_)
+
   -- The values at a of the suffixes of a list, the longest first.
   abbrev pub tops : R → List R → List R
   tops a [] = []
@@ -26,17 +26,17 @@ module _ {R : Type 0} (O : Ops R) where
   div a [] = []
   div a (c ∷ p) = tops a p
 
-  -- a is a root of order r at least: r divisions by x - a leave no remainder.
+  -- The point a is a root of order r at least: r divisions by x - a leave no remainder.
   abbrev pub Order : R → ℕ → List R → Type 0
   Order a zero p = Unit {0}
   Order a (suc r) p = (ev O p a ≡ 𝟘) × Order a r (div a p)
 
 module _ {R : Type 0} (𝓡 : CommRing R) where
+  infixl 60 _⊕_
+  infixl 70 _⊗_
   open CommRing 𝓡 using (ops as O)
   open Ops (𝓡 .ops) using (zero as 𝟘, one as 𝟙, add as _⊕_, mul as _⊗_)
 
-  infixl 60 _⊕_
-  infixl 70 _⊗_
   swap-step : (a b c h s t : R) → a ⊗ h ⊕ b ⊗ s ≡ b ⊗ h ⊕ a ⊗ t
       → a ⊗ ((c ⊕ b ⊗ s) ⊕ a ⊗ h) ⊕ b ⊗ (c ⊕ b ⊗ s) ≡ b ⊗ ((c ⊕ b ⊗ s) ⊕ a ⊗ h) ⊕ a ⊗ (c ⊕ a ⊗ t)
   swap-step a b c h s t e = via (λ x. a ⊗ x ⊕ (a ⊗ c ⊕ b ⊗ (c ⊕ b ⊗ s))) e (simp (ring, 𝓡)) (simp (ring, 𝓡))
@@ -45,6 +45,7 @@ module _ {R : Type 0} (𝓡 : CommRing R) where
   swap a b [] = 𝓡 .add-comm (a ⊗ 𝟘) (b ⊗ 𝟘)
   swap a b (c ∷ p) = swap-step a b c (ev O (tops O b p) a) (ev O p b) (ev O p a) (swap a b p)
 
+  -- Divided by x - a and by x - b, in either order, a polynomial leaves the same.
   ev-sym : (a b : R) (p : List R) → ev O (tops O b p) a ≡ ev O (tops O a p) b
   ev-sym a b [] = refl
   ev-sym a b (c ∷ p) =
@@ -60,7 +61,7 @@ module _ {R : Type 0} (𝓡 : CommRing R) where
   div-comm a b (c ∷ []) = refl
   div-comm a b (c ∷ d ∷ p) = tops-comm a b p
 
-  -- p(b) = p(a) + (b - a) q(b), where q is the quotient by x - a
+  -- The division: p(b) = p(a) + (b - a) q(b), where q is the quotient by x - a.
   pub ev-div : (a b : R) (p : List R) → ev O p b ⊕ a ⊗ ev O (div O a p) b ≡ ev O p a ⊕ b ⊗ ev O (div O a p) b
   ev-div a b [] = simp (ring, 𝓡)
   ev-div a b (c ∷ p) = step (ev O (tops O a p) b) (ev O p a) (ev O p b) (swap b a p)
@@ -81,13 +82,14 @@ module _ {R : Type 0} (𝓡 : CommRing R) where
       let r : AllZero O p = tops-zero a p (t .1) in
       (head-zero a c (ev O p a) (t .0) (ev-zero a p r), r)
 
+  -- A polynomial is zero if its quotient and its remainder are.
   div-zero : (a : R) (p : List R) → ev O p a ≡ 𝟘 → AllZero O (div O a p) → AllZero O p
   div-zero a [] e t = tt
   div-zero a (c ∷ p) e t =
       let r : AllZero O p = tops-zero a p t in
       (head-zero a c (ev O p a) e (ev-zero a p r), r)
 
-  -- r divisions by x - a
+  -- The quotient after r divisions by x - a.
   abbrev divs : R → ℕ → List R → List R
   divs a zero p = p
   divs a (suc r) p = divs a r (div O a p)
@@ -108,7 +110,9 @@ module _ {R : Type 0} (𝓡 : CommRing R) where
   length-divs a zero p = omega arith
   length-divs a (suc r) p = length-divs a r (div O a p) ∙ omega (arith, length-div a p)
 
+  -- In a ring where a factor that is not zero may be taken away, as in a field and in the series over it.
   module _ (cancel : (a b d : R) → a ⊗ d ≡ b ⊗ d → ¬ (a ≡ b) → d ≡ 𝟘) where
+    -- Another root is a root of the quotient, with its order.
     root-div : (a b : R) (p : List R) → ¬ (a ≡ b) → ev O p a ≡ 𝟘 → ev O p b ≡ 𝟘 → ev O (div O a p) b ≡ 𝟘
     root-div a b p n ha hb =
         let d = ev O (div O a p) b in
@@ -130,7 +134,8 @@ module _ {R : Type 0} (𝓡 : CommRing R) where
     all-divs a r p [] o n t = tt
     all-divs a r p (b ∷ bs) o n t = (order-divs a b r r p (n .0) o (t .0), all-divs a r p bs o (n .1) (t .1))
 
-    -- with t distinct roots of order r, a polynomial of at most r t coefficients is zero
+    -- With t different roots of order r, a polynomial of at most r t coefficients is zero:
+    -- each root takes r coefficients off, and the others stay roots of the quotient.
     pub vanish : (ps : List R) (r : ℕ) (p : List R) → Distinct ps → Each (λ a. Order O a r p) ps → length p ≤ r * length ps → AllZero O p
     vanish [] r [] d o l = tt
     vanish [] r (c ∷ p) d o l = absurd (not-suc-le-zero (rw mul-zero at l))

@@ -1,6 +1,6 @@
 -- The elements of a field as a type: the codes below its size.
-use mathlib.Core.Path.{_≡_, PathP, refl, sym, ap, ap₂, _∙_, subst, toPathP}
-use Prim.Native.Nat.{ℕ, _≤_, _<_}
+use mathlib.Core.Path.{_≡_, PathP, sym, ap, _∙_, toPathP}
+use Prim.Native.Nat.{ℕ, _<_}
 use native.Mathlib.Bridge.{le-prop}
 use native.Mathlib.Omega.{arith}
 use native.Mathlib.Decide.{ℕ-discrete}
@@ -8,11 +8,12 @@ use Rattle.algebra.specs.Field.{Meaning, Laws, read}
 use Rattle.algebra.proofs.FirstFound.{read-below, read-lt}
 use Rattle.algebra.specs.Ring.{CommRing, Field}
 
+-- An element: a code and its bound.
 pub record Element (q : ℕ) : Type 0 where
   pub code : ℕ
   pub below : code < q
 
--- elements with equal codes are equal
+-- Elements with equal codes are equal.
 pub same : {q : ℕ} (x y : Element q) → x .code ≡ y .code → x ≡ y
 same {q} x y e =
     let over : PathP (λ i. e i < q) (x .below) (y .below) = toPathP (λ i. e i < q) (le-prop _ _) in
@@ -25,7 +26,7 @@ module _ (F : Meaning) (L : Laws F) where
   pub decode : ℕ → Element (F .size)
   decode n = record { code = read (F .size) n; below = read-lt (F .size) n some }
 
-  -- the codes' operations as the elements'
+  -- The codes' operations as the elements'.
   plus : Element (F .size) → Element (F .size) → Element (F .size)
   plus x y = record { code = F .sum (x .code) (y .code); below = L .sum-below (x .code) (y .code) }
 
@@ -71,7 +72,7 @@ module _ (F : Meaning) (L : Laws F) where
       positive : (a : Element (F .size)) → ¬ (a ≡ nought) → 0 < a .code
       positive a n = let z : a .code ≡ 0 → ⊥ = λ e. n (same a nought e) in omega arith
 
-  -- codes and elements
+  -- What a code stands for: a map from all numbers that keeps the operations, since they read their operands.
   pub decode-code : (x : Element (F .size)) → decode (x .code) ≡ x
   unfolding decode
   decode-code x = same _ x (read-below (F .size) (x .code) (x .below))
@@ -103,3 +104,16 @@ module _ (F : Meaning) (L : Laws F) where
   pub decode-one : decode 1 ≡ field .ring .ops .one
   unfolding decode ring field unit
   decode-one = same _ _ (read-below (F .size) 1 (L .two))
+
+  -- An operation reads its operands, so that one read beforehand gives the same.
+  again : (b : ℕ) → read (F .size) (read (F .size) b) ≡ read (F .size) b
+  again b = read-below (F .size) (read (F .size) b) (read-lt (F .size) b some)
+
+  pub sum-read : (a b : ℕ) → F .sum a (read (F .size) b) ≡ F .sum a b
+  sum-read a b = L .sum-reads a (read (F .size) b) ∙ ap (F .sum (read (F .size) a)) (again b) ∙ sym (L .sum-reads a b)
+
+  pub difference-read : (a b : ℕ) → F .difference a (read (F .size) b) ≡ F .difference a b
+  difference-read a b = L .difference-reads a (read (F .size) b) ∙ ap (F .difference (read (F .size) a)) (again b) ∙ sym (L .difference-reads a b)
+
+  pub product-read : (a b : ℕ) → F .product a (read (F .size) b) ≡ F .product a b
+  product-read a b = L .product-reads a (read (F .size) b) ∙ ap (F .product (read (F .size) a)) (again b) ∙ sym (L .product-reads a b)

@@ -1,35 +1,40 @@
 -- The small instance, by the theorems.
-use mathlib.Core.Path.{_≡_, refl, sym, ap}
-use mathlib.Core.List.{List, [], _∷_}
-use Prim.Native.Nat.{ℕ, zero, suc, _+_, _*_, _<_, _≤_}
+use mathlib.Core.Path.{_≡_, refl}
+use mathlib.Core.List.{[], _∷_}
+use Prim.Native.Nat.{ℕ, zero, suc, _*_, _<_}
 use native.Mathlib.Omega.{arith}
-use lib.ListN.{length}
-use Rattle.algebra.specs.Field.{Meaning, Laws, codes}
+use Rattle.algebra.specs.Field.{Laws, codes}
 use Rattle.algebra.specs.Prime.{prime}
-use Rattle.algebra.specs.Curve.{Table, choose, sum, times, power, term, hasse, Multiplicity, Degree-below, row, Zero-at, Lies}
+use Rattle.algebra.specs.Curve.{choose, sum, times, power, term, hasse, Multiplicity, Through, Degree-below, row, Zero-at, Lies}
 use Rattle.algebra.specs.Interpolation.{Fitted}
-use Rattle.algebra.specs.CodeRecovery.{Pairs, passed, score}
-use Rattle.algebra.specs.Example.{line, square, Example}
+use Rattle.algebra.specs.CodeRecovery.{at, Pairs, score}
+use Rattle.algebra.specs.Example.{line, Example}
 use Rattle.algebra.proofs.Modular.{prime-laws}
 use Rattle.algebra.proofs.CodeRecovery.{code-vanishing, code-walk-meets}
 
+-- The field of two elements.
 two : Laws (prime 2)
 two = prime-laws 2 tt
 
+-- The curve y passes through the origin.
 at-origin : Multiplicity (codes (prime 2)) 1 2 1 0 0 line
 unfolding hasse term sum times power choose
 at-origin zero zero h = refl
 at-origin zero (suc w) h = absurd (omega arith)
 at-origin (suc u) w h = absurd (omega arith)
 
+meets : Through (codes (prime 2)) 1 2 1 1 (at (0 ∷ [])) (at (0 ∷ [])) line
+meets zero l = at-origin
+meets (suc t) l = at-origin
+
 degree : Degree-below (codes (prime 2)) 1 2 0 1 line
 degree i j hi hj o = absurd (let z : 0 * j ≡ 0 = omega arith in omega arith)
 
-fits : Fitted (codes (prime 2)) 1 2 0 0 1 1 (λ _. 0) (λ _. 0) line
+fits : Fitted (codes (prime 2)) 1 2 0 0 1 1 (at (0 ∷ [])) (at (0 ∷ [])) line
 fits = record {
   some = (0, 1, omega arith, omega arith, λ e. let z : _≡_ {A = ℕ} 1 0 = e in omega arith);
   within = degree;
-  through = λ t l. at-origin;
+  through = meets;
 }
 
 origin : Pairs (prime 2) (0 ∷ []) (0 ∷ [])
@@ -40,14 +45,14 @@ origin = record {
   apart = λ s t o l _ _. omega arith;
 }
   where
-    one : (t : ℕ) → lib.ListN.getD {A = ℕ} (0 ∷ []) t 0 < 2
+    one : (t : ℕ) → at (0 ∷ []) t < 2
     one zero = omega arith
     one (suc t) = omega arith
 
 -- 0 passes through the pair, so that it lies on the curve.
 zero-lies : Lies (codes (prime 2)) 1 2 line (0 ∷ [])
 unfolding score
-zero-lies = code-vanishing (prime 2) two 1 1 1 2 0 line (0 ∷ []) (0 ∷ []) (0 ∷ []) refl degree origin (λ t l. elim t as (λ t. Multiplicity (codes (prime 2)) 1 2 1 (lib.ListN.getD {A = ℕ} (0 ∷ []) t 0) (lib.ListN.getD {A = ℕ} (0 ∷ []) t 0) line) [ zero ↦ at-origin | suc t ↦ at-origin ]) (omega arith)
+zero-lies = code-vanishing (prime 2) two 1 1 1 2 0 line (0 ∷ []) (0 ∷ []) (0 ∷ []) refl degree origin meets (omega arith)
 
 one-off : ¬ Lies (codes (prime 2)) 1 2 line (1 ∷ [])
 unfolding Zero-at row

@@ -1,11 +1,10 @@
 -- What `first` finds, and operands that are read.
-use mathlib.Core.Path.{_≡_, refl, sym, ap, _∙_, subst}
+use mathlib.Core.Path.{_≡_, refl, sym, ap, subst}
 use mathlib.Core.Bool.{Bool, true, false, cond}
-use mathlib.Core.Logic.{_⊎_, inl, inr}
 use Prim.Native.Nat.{ℕ, zero, suc, _+_, _≤_, _<_}
 use native.Mathlib.Nat.{add-suc, suc-add, add-zero}
 use native.Mathlib.Omega.{arith}
-use lib.Dec.{T, ltb, eqb, lt→ltb, ltb→lt}
+use lib.Dec.{T, ltb, lt→ltb, ltb→lt}
 use Rattle.algebra.specs.Field.{read, first}
 
 T-true : (b : Bool) → T b → b ≡ true
@@ -30,7 +29,7 @@ false-T : (b : Bool) → b ≡ false → T b → ⊥
 false-T true e t = subst T e tt
 false-T false e t = t
 
--- where some number in the range passes, the one found passes
+-- Where some number in the range passes, the one found passes.
 pub found : (f : ℕ → Bool) (b n w : ℕ) → b ≤ w → w < b + n → T (f w) → T (f (first f b n))
 found f b zero w lo hi t = absurd (let e : b + zero ≡ b = add-zero b in omega arith)
 found f b (suc n) w lo hi t =

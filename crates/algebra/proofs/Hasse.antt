@@ -1,7 +1,7 @@
 -- The Hasse derivatives of a polynomial at a are the remainders of repeated division by x - a.
 use mathlib.Core.Path.{_≡_, refl, sym, _∙_, ap}
 use mathlib.Core.List.{List, [], _∷_, map}
-use Prim.Native.Nat.{ℕ, zero, suc, _+_, _<_}
+use Prim.Native.Nat.{ℕ, zero, suc, _<_}
 use native.Mathlib.Omega.{arith}
 use Rattle.algebra.specs.Ring.{Ops, CommRing}
 use Rattle.algebra.specs.Series.{ev}
@@ -20,11 +20,12 @@ module _ {R : Type 0} (O : Ops R) where
   derivative₂ u w a b Q = derivative w b 0 (map (derivative u a 0) Q)
 
 module _ {R : Type 0} (𝓡 : CommRing R) where
+  infixl 60 _⊕_
+  infixl 70 _⊗_
   open CommRing 𝓡 using (ops as O)
   open Ops (𝓡 .ops) using (zero as 𝟘, one as 𝟙, add as _⊕_, mul as _⊗_)
 
-  infixl 60 _⊕_
-  infixl 70 _⊗_
+  -- A shorter name.
   abbrev D : ℕ → R → ℕ → List R → R
   D = derivative O
 

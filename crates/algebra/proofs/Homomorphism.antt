@@ -1,15 +1,16 @@
 -- A map that keeps the operations carries polynomials, series, curves and their derivatives along.
-use mathlib.Core.Path.{_≡_, refl, sym, _∙_, ap, ap₂, fun-ext}
+use mathlib.Core.Path.{_≡_, refl, _∙_, ap, ap₂, fun-ext}
 use mathlib.Core.Bool.{Bool, true, false, cond}
 use mathlib.Core.List.{List, [], _∷_, map}
 use Prim.Native.Nat.{ℕ, zero, suc, _+_, _-_}
-use lib.Dec.{ltb, eqb}
+use lib.Dec.{ltb}
 use Rattle.algebra.specs.Ring.{Ops}
 use Rattle.algebra.specs.Series.{ev, poly, tail, smul, series, coefficients}
 use Rattle.algebra.specs.Curve.{Table, choose, sum, times, power, term, hasse, row, weight, dot, discrepancy}
 use Rattle.algebra.specs.Interpolation.{up, linear, mix}
 use Rattle.algebra.specs.Walk.{shifted, raised, stretched, moved}
 
+-- The map φ keeps the operations.
 pub record Hom {R S : Type 0} (O : Ops R) (P : Ops S) (φ : R → S) : Type 0 where
   pub on-zero : φ (O .zero) ≡ P .zero
   pub on-one : φ (O .one) ≡ P .one
@@ -17,7 +18,7 @@ pub record Hom {R S : Type 0} (O : Ops R) (P : Ops S) (φ : R → S) : Type 0 wh
   pub on-sub : (a b : R) → φ (O .sub a b) ≡ P .sub (φ a) (φ b)
   pub on-mul : (a b : R) → φ (O .mul a b) ≡ P .mul (φ a) (φ b)
 
-module _ {R S : Type 0} (O : Ops R) (P : Ops S) (φ : R → S) (h : Hom O P φ) where
+module _ {R S : Type 0} {O : Ops R} {P : Ops S} {φ : R → S} (h : Hom O P φ) where
   -- The curve of the images.
   abbrev pub image : Table R → Table S
   image c i j = φ (c i j)

@@ -9,11 +9,11 @@ use Rattle.algebra.proofs.Lists.{tab}
 use Rattle.algebra.proofs.Series.{𝓢, x-tail, x-out}
 
 module _ {R : Type 0} (𝓡 : CommRing R) where
+  infixl 60 _⊕_
+  infixl 70 _⊗_
   open CommRing 𝓡 using (ops as O)
   open Ops (𝓡 .ops) using (zero as 𝟘, add as _⊕_, mul as _⊗_)
 
-  infixl 60 _⊕_
-  infixl 70 _⊗_
   pub poly-ext : (n : ℕ) (P Q : ℕ → R) (y : R) → ((j : ℕ) → j < n → P j ≡ Q j) → poly O n P y ≡ poly O n Q y
   poly-ext zero P Q y h = refl
   poly-ext (suc n) P Q y h = λ i. h 0 (omega arith) i ⊕ y ⊗ poly-ext n (λ j. P (suc j)) (λ j. Q (suc j)) y (λ j l. h (suc j) (omega arith)) i
@@ -22,20 +22,22 @@ module _ {R : Type 0} (𝓡 : CommRing R) where
   poly-zero zero y = refl
   poly-zero (suc n) y = ap (λ x. 𝟘 ⊕ y ⊗ x) (poly-zero n y) ∙ simp (ring, 𝓡)
 
-  scale-step : (a p y x t : R) → x ≡ a ⊗ t → a ⊗ p ⊕ y ⊗ x ≡ a ⊗ (p ⊕ y ⊗ t)
-  scale-step a p y x t e = ap (λ x. a ⊗ p ⊕ y ⊗ x) e ∙ simp (ring, 𝓡)
+  -- Horner's rule takes a factor out,
+  pub horner-scale : (k c d s x p : R) → k ≡ c ⊗ d → x ≡ c ⊗ p → k ⊕ s ⊗ x ≡ c ⊗ (d ⊕ s ⊗ p)
+  horner-scale k c d s x p e f = (λ i. e i ⊕ s ⊗ f i) ∙ simp (ring, 𝓡)
 
   pub poly-scale : (n : ℕ) (a : R) (P : ℕ → R) (y : R) → poly O n (λ j. a ⊗ P j) y ≡ a ⊗ poly O n P y
   poly-scale zero a P y = sym (mul-zero 𝓡 a)
-  poly-scale (suc n) a P y = scale-step a (P 0) y _ (poly O n (λ j. P (suc j)) y) (poly-scale n a (λ j. P (suc j)) y)
+  poly-scale (suc n) a P y = horner-scale _ a (P 0) y _ (poly O n (λ j. P (suc j)) y) refl (poly-scale n a (λ j. P (suc j)) y)
 
-  add-step : (p q y x s t : R) → x ≡ s ⊕ t → p ⊕ q ⊕ y ⊗ x ≡ (p ⊕ y ⊗ s) ⊕ (q ⊕ y ⊗ t)
-  add-step p q y x s t e = ap (λ x. p ⊕ q ⊕ y ⊗ x) e ∙ simp (ring, 𝓡)
+  -- and takes a sum apart.
+  pub horner-add : (k c d s x p q : R) → k ≡ c ⊕ d → x ≡ p ⊕ q → k ⊕ s ⊗ x ≡ (c ⊕ s ⊗ p) ⊕ (d ⊕ s ⊗ q)
+  horner-add k c d s x p q e f = (λ i. e i ⊕ s ⊗ f i) ∙ simp (ring, 𝓡)
 
   pub poly-add : (n : ℕ) (P Q : ℕ → R) (y : R) → poly O n (λ j. P j ⊕ Q j) y ≡ poly O n P y ⊕ poly O n Q y
   poly-add zero P Q y = sym (𝓡 .add-zero 𝟘)
   poly-add (suc n) P Q y =
-      add-step (P 0) (Q 0) y _ (poly O n (λ j. P (suc j)) y) (poly O n (λ j. Q (suc j)) y) (poly-add n (λ j. P (suc j)) (λ j. Q (suc j)) y)
+      horner-add _ (P 0) (Q 0) y _ (poly O n (λ j. P (suc j)) y) (poly O n (λ j. Q (suc j)) y) refl (poly-add n (λ j. P (suc j)) (λ j. Q (suc j)) y)
 
   top-step : (p y : R) → p ≡ 𝟘 → p ⊕ y ⊗ 𝟘 ≡ 𝟘
   top-step p y e = ap (λ x. x ⊕ y ⊗ 𝟘) e ∙ simp (ring, 𝓡)
@@ -69,12 +71,12 @@ module _ {R : Type 0} (𝓡 : CommRing R) where
   ev-tab (suc n) P y = ap (λ x. P 0 ⊕ y ⊗ x) (ev-tab n (λ j. P (suc j)) y)
 
 module _ {K : Type 0} (𝓚 : CommRing K) where
+  infixl 60 _⊕_ _⊞_
+  infixl 70 _⊗_ _⊠_
   open CommRing 𝓚 using (ops as O)
   open Ops (𝓚 .ops) using (zero as 𝟘, add as _⊕_, mul as _⊗_)
   open Ops (𝓢 𝓚 .ops) using (zero as ∅, add as _⊞_, mul as _⊠_)
 
-  infixl 60 _⊕_ _⊞_
-  infixl 70 _⊗_ _⊠_
   -- The value at x = 0.
   pub poly-first : (n : ℕ) (P : ℕ → ℕ → K) (y : ℕ → K) → poly (series O) n P y 0 ≡ poly O n (λ j. P j 0) (y 0)
   poly-first zero P y = refl

@@ -1,7 +1,7 @@
--- What a step of Koetter's method does to one curve: it meets the new condition, and its lead is where the step says.
+-- What a step of Kötter's method does to one curve: it meets the new condition, and its lead is where the step says.
 use mathlib.Core.Path.{_≡_, refl, sym, ap, _∙_}
 use mathlib.Core.Logic.{_≢_, _⊎_, ⊎-elim}
-use Prim.Native.Nat.{ℕ, zero, suc, _+_, _*_, _<_, _≤_}
+use Prim.Native.Nat.{ℕ, zero, suc, _+_, _*_, _<_}
 use native.Mathlib.Omega.{arith}
 use Rattle.algebra.specs.Ring.{Ops, CommRing, Field}
 use Rattle.algebra.specs.Curve.{Table, discrepancy}
@@ -35,12 +35,12 @@ module _ {K : Type 0} (O : Ops K) (X Y v : ℕ) where
   }
 
 module _ {K : Type 0} (𝓕 : Field K) where
+  infixl 60 _⊕_ _⊖_
+  infixl 70 _⊗_
   open Field 𝓕 using (ring as 𝓚)
   open CommRing 𝓚 using (ops as O)
   open Ops (𝓚 .ops) using (zero as 𝟘, add as _⊕_, sub as _⊖_, mul as _⊗_)
 
-  infixl 60 _⊕_ _⊖_
-  infixl 70 _⊗_
   zero-times : (a x : K) → x ≡ 𝟘 → a ⊗ x ≡ 𝟘
   zero-times a x e = ap (λ t. a ⊗ t) e ∙ mul-zero 𝓚 a
 

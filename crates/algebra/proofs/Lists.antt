@@ -1,5 +1,5 @@
 -- Lists: what holds of every element, and lists from functions.
-use mathlib.Core.Path.{_≡_, refl, sym, _∙_, ap}
+use mathlib.Core.Path.{_≡_, refl, ap}
 use mathlib.Core.List.{List, [], _∷_, map}
 use Prim.Native.Nat.{ℕ, zero, suc, _<_}
 use native.Mathlib.Omega.{arith}
@@ -34,7 +34,7 @@ pub map-map : {A B C : Type 0} (f : B → C) (g : A → B) (l : List A) → map 
 map-map f g [] = refl
 map-map f g (x ∷ l) = λ i. f (g x) ∷ map-map f g l i
 
--- f 0, .., f (n - 1)
+-- The list f 0, .., f (n - 1).
 abbrev pub tab : {A : Type 0} → ℕ → (ℕ → A) → List A
 tab zero f = []
 tab (suc n) f = f 0 ∷ tab n (λ i. f (suc i))

@@ -1,8 +1,8 @@
 -- The whole numbers modulo p: the laws of a ring at every p, and of a field at the listed ones.
-use mathlib.Core.Path.{_≡_, refl, sym, ap, _∙_, subst}
-use mathlib.Core.Bool.{Bool, true, false, _&&_, _||_}
-use mathlib.Core.Logic.{_⊎_, inl, inr, ⊎-elim}
-use Prim.Native.Nat.{ℕ, zero, suc, _+_, _-_, _*_, _/_, _%_, _^_, _≤_, _<_}
+use mathlib.Core.Path.{_≡_, sym, ap, _∙_}
+use mathlib.Core.Bool.{Bool, _&&_, _||_}
+use mathlib.Core.Logic.{_⊎_, ⊎-elim}
+use Prim.Native.Nat.{ℕ, _+_, _-_, _*_, _/_, _%_, _^_, _<_}
 use native.Mathlib.Nat.{add-zero, add-assoc, add-comm, mul-assoc, mul-comm, mul-add, add-mul, mul-one, zero-mul, zero-mod, mod-lt, mod-eq-of-lt, mod-add-mod, add-mod-mod, add-mod-right, add-mul-mod-self-left, mod-add-div}
 use native.Mathlib.Omega.{arith}
 use lib.Dec.{T, eqb, leb, ltb, eqb→eq, leb→le, ltb→lt}
@@ -20,7 +20,7 @@ mul-mod-l a b p =
 mul-mod-r : (a b p : ℕ) → (a * (b % p)) % p ≡ (a * b) % p
 mul-mod-r a b p = ap (λ n. n % p) (mul-comm a (b % p)) ∙ mul-mod-l b a p ∙ ap (λ n. n % p) (mul-comm b a)
 
--- what is tested at each p: its bounds, and a power of each element that is its inverse
+-- What is tested at each p: its bounds, and a power of each element that is its inverse.
 abbrev sound : ℕ → Bool
 sound p = leb p 256 && (ltb 1 p && all-below (λ a. eqb a 0 || eqb (a * (a ^ (p - 2) % p) % p) 1) p)
 

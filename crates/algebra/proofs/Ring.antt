@@ -1,7 +1,6 @@
 -- The ring laws as lemmas, and two sets of them that sort both sides of an equation.
 -- A ring equation is then proved by `simp (ring, 𝓡)`, one with differences by `simp (signed, 𝓡)`.
-use mathlib.Core.Path.{_≡_, refl, sym, _∙_, ap}
-use mathlib.Core.Logic.{_⊎_, inl, inr}
+use mathlib.Core.Path.{_≡_, sym, _∙_, ap}
 use Rattle.algebra.specs.Ring.{Ops, CommRing, Field}
 
 -- Rewrites by e in the place that f names, between two ring equations.
@@ -9,10 +8,10 @@ pub via : {R : Type 0} (f : R → R) {x y l r : R} → x ≡ y → l ≡ f x →
 via f e p q = p ∙ ap f e ∙ q
 
 module _ {R : Type 0} (𝓡 : CommRing R) where
-  open Ops (𝓡 .ops) using (zero as 𝟘, one as 𝟙, add as _⊕_, sub as _⊖_, mul as _⊗_)
-
   infixl 60 _⊕_ _⊖_
   infixl 70 _⊗_
+  open Ops (𝓡 .ops) using (zero as 𝟘, one as 𝟙, add as _⊕_, sub as _⊖_, mul as _⊗_)
+
   pub add-assoc : (a b c : R) → a ⊕ b ⊕ c ≡ a ⊕ (b ⊕ c)
   add-assoc = 𝓡 .add-assoc
 
@@ -105,11 +104,11 @@ module _ {R : Type 0} (𝓡 : CommRing R) where
   pub ruleset signed = (ring, sub-neg, mul-neg, neg-mul, neg-add)
 
 module _ {K : Type 0} (𝓕 : Field K) where
+  infixl 60 _⊕_
+  infixl 70 _⊗_
   open Field 𝓕 using (ring as 𝓚, same, inv)
   open Ops (𝓚 .ops) using (zero as 𝟘, one as 𝟙, add as _⊕_, mul as _⊗_)
 
-  infixl 60 _⊕_
-  infixl 70 _⊗_
   -- A factor that is not zero may be taken away.
   pub divide : (a b d : K) → ¬ (d ≡ 𝟘) → a ⊗ d ≡ b ⊗ d → a ≡ b
   divide a b d n e = sym (back a) ∙ ap (λ x. x ⊗ inv d) e ∙ back b

@@ -1,15 +1,14 @@
 -- On a curve that is not zero lie fewer polynomials than it has rows:
 -- they are roots of a polynomial in y over the power series in x, in which a factor that is not zero may be taken away.
-use mathlib.Core.Path.{_≡_, refl, sym, _∙_, ap, fun-ext}
+use mathlib.Core.Path.{_≡_, refl, sym, _∙_, fun-ext}
 use mathlib.Core.List.{List, [], _∷_, map}
-use Prim.Native.Nat.{ℕ, zero, suc, _+_, _*_, _≤_, _<_}
+use Prim.Native.Nat.{ℕ, zero, suc, _≤_, _<_}
 use native.Mathlib.Omega.{arith}
 use native.Mathlib.Decide.{decLe}
 use lib.ListN.{length}
 use Rattle.algebra.specs.Ring.{Ops, CommRing, Field}
-use Rattle.algebra.specs.Lists.{Each, Distinct}
-use Rattle.algebra.specs.Series.{AllZero, tail, smul, coefficients, series}
-use Rattle.algebra.specs.Curve.{Table, Nonzero, row, Zero-at, Lies}
+use Rattle.algebra.specs.Series.{AllZero, tail, coefficients, series}
+use Rattle.algebra.specs.Curve.{row, Zero-at}
 use Rattle.algebra.specs.Recovery.{Few}
 use Rattle.algebra.proofs.Ring.{add-cancel, divide}
 use Rattle.algebra.proofs.Lists.{each-map, each-over, each-at, distinct-map, length-map, tab, length-tab}
@@ -26,13 +25,13 @@ module _ {K : Type 0} (O : Ops K) where
   coefficients-tell (c ∷ f) (d ∷ g) l h = λ i. h 0 i ∷ coefficients-tell f g (omega arith) (λ n. h (suc n)) i
 
 module _ {K : Type 0} (𝓕 : Field K) where
+  infixl 60 _⊕_
+  infixl 70 _⊗_ _⊠_
   open Field 𝓕 using (ring as 𝓚, same)
   open CommRing 𝓚 using (ops as O)
   open Ops (𝓚 .ops) using (zero as 𝟘, add as _⊕_, mul as _⊗_)
   open Ops (𝓢 𝓚 .ops) using (zero as ∅, mul as _⊠_)
 
-  infixl 60 _⊕_
-  infixl 70 _⊗_ _⊠_
   -- A series with a constant coefficient that is not zero may be taken away, coefficient by coefficient.
   lead : (d : ℕ → K) → ¬ (d 0 ≡ 𝟘) → (m : ℕ) (a b : ℕ → K) → ((n : ℕ) → (a ⊠ d) n ≡ (b ⊠ d) n) → a m ≡ b m
   lead d z zero a b h = divide 𝓕 (a 0) (b 0) (d 0) z (h 0)
@@ -56,6 +55,7 @@ module _ {K : Type 0} (𝓕 : Field K) where
   cancel-series a b d e n =
       fun-ext λ k. elim (same (d k) 𝟘) [ yes h ↦ h | no h ↦ absurd (n (fun-ext (some-lead k d h a b (λ m i. e i m)))) ]
 
+  -- A polynomial as a series.
   abbrev s : List K → ℕ → K
   s = coefficients O
 

@@ -15,9 +15,8 @@ use Rattle.algebra.specs.Curve.{Table, sum, weight, dot, discrepancy, Degree-b
 use Rattle.algebra.proofs.Ring.{mul-zero}
 use Rattle.algebra.proofs.Lists.{tab, length-tab}
 use Rattle.algebra.proofs.Sums.{sum-ext, sum-front, sum-pad}
-use Rattle.algebra.proofs.Series.{𝓢}
 use Rattle.algebra.proofs.Hasse.{derivative, derivative₂}
-use Rattle.algebra.proofs.Composition.{Fits, evS, ev2, evS-coefficients}
+use Rattle.algebra.proofs.Composition.{Fits, ev₂, evS-coefficients}
 
 module _ {K : Type 0} (O : Ops K) where
   pub row-in : (X : ℕ) (c : Table K) (j i : ℕ) → i < X → row O X c j i ≡ c i j
@@ -46,11 +45,11 @@ later : (v m i j : ℕ) → m - v ≤ i + v * j → m ≤ i + v * suc j
 later v m i j h = let e = mul-add v j 1 in omega arith
 
 module _ {K : Type 0} (𝓚 : CommRing K) where
+  infixl 60 _⊕_
+  infixl 70 _⊗_
   open CommRing 𝓚 using (ops as O)
   open Ops (𝓚 .ops) using (zero as 𝟘, add as _⊕_, mul as _⊗_)
 
-  infixl 60 _⊕_
-  infixl 70 _⊗_
   -- Rows that are zero from the weighted degree m on.
   abbrev Light : (v X n m : ℕ) → (ℕ → ℕ → K) → Type 0
   Light v X n m P = (j i : ℕ) → j < n → i < X → m ≤ i + v * j → P j i ≡ 𝟘
@@ -101,7 +100,7 @@ module _ {K : Type 0} (𝓚 : CommRing K) where
   coefficients-tab (suc n) f h (suc i) = coefficients-tab n (λ k. f (suc k)) (λ k l. h (suc k) (omega arith)) i
 
   values : (v X n m : ℕ) (P : ℕ → ℕ → K) (y : ℕ → K) → ((j i : ℕ) → X ≤ i → P j i ≡ 𝟘) → Light v X n m P
-      → ev2 𝓚 (rows v X n m P) (𝕏 O) y ≡ poly (series O) n P y
+      → ev₂ 𝓚 (rows v X n m P) (𝕏 O) y ≡ poly (series O) n P y
   values v X zero m P y o z = refl
   values v X (suc n) m P y o z =
       λ k. series O .add ((evS-coefficients 𝓚 (tab (min X m) (P 0)) ∙ fun-ext (coefficients-tab (min X m) (P 0) zero-past)) k)
@@ -112,6 +111,6 @@ module _ {K : Type 0} (𝓚 : CommRing K) where
 
   -- The table and its rows have the same value with a series put for y.
   pub rows-value : (v X Y m : ℕ) (c : Table K) (y : ℕ → K) → Degree-below O X Y v m c
-      → ev2 𝓚 (rows v X Y m (row O X c)) (𝕏 O) y ≡ poly (series O) Y (row O X c) y
+      → ev₂ 𝓚 (rows v X Y m (row O X c)) (𝕏 O) y ≡ poly (series O) Y (row O X c) y
   rows-value v X Y m c y z =
       values v X Y m (row O X c) y (row-out O X c) (λ j i l b o. row-in O X c j i b ∙ z i j b l o)

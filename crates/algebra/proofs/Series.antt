@@ -1,24 +1,21 @@
--- Power series over a commutative ring are a commutative ring; polynomials in it.
+-- Power series over a commutative ring are a commutative ring; elements as series, and the product with x.
 use mathlib.Core.Path.{_≡_, refl, sym, _∙_, ap, fun-ext}
 use Prim.Native.Nat.{ℕ, zero, suc}
 use Rattle.algebra.specs.Ring.{Ops, CommRing}
 use Rattle.algebra.specs.Series.{tail, smul, const, 𝕏, series}
-use Rattle.algebra.proofs.Ring.{ring, zero-mul, mul-zero, one-mul}
+use Rattle.algebra.proofs.Ring.{ring, add-left-comm, zero-mul, mul-zero, one-mul}
 
 module _ {K : Type 0} (𝓚 : CommRing K) where
-  open CommRing 𝓚 using (ops as O)
-  open Ops (𝓚 .ops) using (zero as 𝟘, one as 𝟙, add as _⊕_, mul as _⊗_)
-
   infixl 60 _⊕_
   infixl 70 _⊗_
-  mid : (x y z : K) → x ⊕ (y ⊕ z) ≡ y ⊕ (x ⊕ z)
-  mid x y z = simp (ring, 𝓚)
+  open CommRing 𝓚 using (ops as O)
+  open Ops (𝓚 .ops) using (zero as 𝟘, one as 𝟙, add as _⊕_, mul as _⊗_)
 
   pub smul-right : (f g : ℕ → K) (n : ℕ) → smul O f g (suc n) ≡ f (suc n) ⊗ g 0 ⊕ smul O f (tail g) n
   smul-right f g zero = 𝓚 .add-comm (f 0 ⊗ g 1) (f 1 ⊗ g 0)
   smul-right f g (suc n) =
       ap (λ x. f 0 ⊗ g (suc (suc n)) ⊕ x) (smul-right (tail f) g n)
-      ∙ mid (f 0 ⊗ g (suc (suc n))) (f (suc (suc n)) ⊗ g 0) (smul O (tail f) (tail g) n)
+      ∙ add-left-comm 𝓚 (f 0 ⊗ g (suc (suc n))) (f (suc (suc n)) ⊗ g 0) (smul O (tail f) (tail g) n)
 
   pub smul-comm : (f g : ℕ → K) (n : ℕ) → smul O f g n ≡ smul O g f n
   smul-comm f g zero = 𝓚 .mul-comm (f 0) (g 0)

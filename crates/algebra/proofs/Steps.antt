@@ -1,12 +1,12 @@
 -- A step keeps the table's invariant.
-use mathlib.Core.Path.{_≡_, refl, sym, ap, _∙_, subst}
+use mathlib.Core.Path.{_≡_, sym, subst}
 use mathlib.Core.Logic.{_≢_, _⊎_, ⊎-elim}
 use Prim.Native.Nat.{ℕ, zero, suc, _+_, _*_, _<_, _≤_}
 use native.Mathlib.Omega.{arith}
 use native.Mathlib.Decide.{ℕ-discrete}
 use Rattle.algebra.specs.Ring.{Ops, CommRing, Field}
 use Rattle.algebra.specs.Curve.{Table, discrepancy}
-use Rattle.algebra.specs.Interpolation.{key, total, Conditions, Ready, Closed, OneMore, linear, Good, Inv, Step}
+use Rattle.algebra.specs.Interpolation.{key, Conditions, Ready, Closed, OneMore, linear, Good, Inv, Step}
 use Rattle.algebra.proofs.Keys.{key-apart}
 use Rattle.algebra.proofs.Leads.{good-same, good-fewer, good-met, good-mixed, good-lifted}
 use Rattle.algebra.proofs.Totals.{total-bump}

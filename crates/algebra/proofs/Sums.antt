@@ -15,11 +15,11 @@ module _ {K : Type 0} (O : Ops K) where
   sum-ext (suc n) f g h = λ k. O .add (sum-ext n f g (λ i l. h i (omega arith)) k) (h n (omega arith) k)
 
 module _ {K : Type 0} (𝓚 : CommRing K) where
+  infixl 60 _⊕_
+  infixl 70 _⊗_
   open CommRing 𝓚 using (ops as O)
   open Ops (𝓚 .ops) using (zero as 𝟘, add as _⊕_, mul as _⊗_)
 
-  infixl 60 _⊕_
-  infixl 70 _⊗_
   pub sum-zero : (n : ℕ) (f : ℕ → K) → ((i : ℕ) → i < n → f i ≡ 𝟘) → sum O n f ≡ 𝟘
   unfolding sum
   sum-zero zero f h = refl

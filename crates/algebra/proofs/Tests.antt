@@ -1,11 +1,10 @@
 -- Tests that antt computes, and the facts that they stand for.
-use mathlib.Core.Path.{_≡_, refl, sym, ap, _∙_, subst}
+use mathlib.Core.Path.{sym, subst}
 use mathlib.Core.Bool.{Bool, true, false, _&&_, _||_}
 use mathlib.Core.List.{List, [], _∷_}
 use mathlib.Core.Logic.{_⊎_, inl, inr}
-use Prim.Native.Nat.{ℕ, zero, suc, _+_, _≤_, _<_}
+use Prim.Native.Nat.{ℕ, zero, suc, _<_}
 use native.Mathlib.Nat.{not-suc-le-zero, le-of-suc-le-suc, eq-or-lt-of-le}
-use native.Mathlib.Omega.{arith}
 use lib.Dec.{T, eqb, eqb→eq}
 use Rattle.algebra.specs.Listed.{among}
 
@@ -21,7 +20,7 @@ pub or-cases : (a b : Bool) → T (a || b) → T a ⊎ T b
 or-cases true b t = inl tt
 or-cases false b t = inr t
 
--- the test passes at each number below n
+-- The test passes at each number below n.
 abbrev pub all-below : (ℕ → Bool) → ℕ → Bool
 all-below f zero = true
 all-below f (suc n) = f n && all-below f n
@@ -34,7 +33,7 @@ below-at f (suc n) t k h =
       | inr l ↦ below-at f n (and-right (f n) (all-below f n) t) k l
     ]
 
--- the test passes at each number of the list
+-- The test passes at each number of the list.
 abbrev pub all-of : (ℕ → Bool) → List ℕ → Bool
 all-of f [] = true
 all-of f (x ∷ xs) = f x && all-of f xs

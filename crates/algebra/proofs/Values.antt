@@ -1,7 +1,7 @@
 -- The value of a polynomial by Horner's rule, from the laws.
-use mathlib.Core.Path.{_≡_, refl, sym, ap, ap₂, _∙_, subst}
+use mathlib.Core.Path.{_≡_, sym, ap, ap₂, _∙_}
 use mathlib.Core.List.{List, [], _∷_}
-use Prim.Native.Nat.{ℕ, zero, suc, _<_}
+use Prim.Native.Nat.{ℕ, suc, _<_}
 use native.Mathlib.Omega.{arith}
 use Rattle.algebra.specs.Field.{Meaning, Laws, codes}
 use Rattle.algebra.specs.Series.{ev}
@@ -10,11 +10,12 @@ use Rattle.algebra.specs.Ring.{CommRing}
 use Rattle.algebra.proofs.Ring.{mul-zero, one-mul}
 use Rattle.algebra.proofs.Elements as el
 
+-- The value by Horner's rule, as a program computes it.
 abbrev pub horner : Meaning → ℕ → List ℕ → ℕ
 horner F x cs = ev (codes F) cs x
 
 module _ {K : Type 0} (R : CommRing K) where
-  -- one coefficient more
+  -- One coefficient more.
   step : (c p x h : K) → R .ops .add (R .ops .mul c p) (R .ops .mul (R .ops .mul p x) h) ≡ R .ops .mul p (R .ops .add c (R .ops .mul x h))
   step c p x h = ap₂ (R .ops .add) (R .mul-comm c p) (R .mul-assoc p x h) ∙ sym (R .mul-add p c (R .ops .mul x h))
 

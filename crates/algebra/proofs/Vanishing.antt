@@ -8,16 +8,17 @@ use lib.ListN.{length}
 use Rattle.algebra.specs.Ring.{Ops, CommRing, Field}
 use Rattle.algebra.specs.Lists.{Each, Distinct}
 use Rattle.algebra.specs.Series.{ev, AllZero, 𝕏, coefficients}
-use Rattle.algebra.specs.Curve.{Table, Multiplicity, Through, Degree-below, row, Zero-at, Lies}
+use Rattle.algebra.specs.Curve.{Table, Multiplicity, Degree-below, row, Zero-at, Lies}
 use Rattle.algebra.specs.Recovery.{one-if, Apart, agreed, Vanishing, Unique}
 use Rattle.algebra.proofs.Ring.{via, ring, zero-add, add-cancel, cancel}
 use Rattle.algebra.proofs.Lists.{each-map}
 use Rattle.algebra.proofs.Division.{Order, vanish}
-use Rattle.algebra.proofs.Composition.{comp, length-comp, evS, ev2, evS-comp, evS-coefficients, evS-zero}
+use Rattle.algebra.proofs.Composition.{comp, length-comp, ev₂, evS-comp, evS-coefficients, evS-zero}
 use Rattle.algebra.proofs.Taylor.{Rows-multiplicity, through}
 use Rattle.algebra.proofs.Weights.{hasse-is}
 use Rattle.algebra.proofs.Rows.{rows, rows-fit, rows-derivative, rows-value}
 
+-- An element is kept where the decision is yes.
 abbrev keep : {A P : Type 0} → Dec P → A → List A → List A
 keep (yes h) a l = a ∷ l
 keep (no h) a l = l
@@ -27,12 +28,12 @@ keep-length (yes h) a l n e = omega arith
 keep-length (no h) a l n e = omega arith
 
 module _ {K : Type 0} (𝓕 : Field K) where
+  infixl 60 _⊕_ _⊖_
+  infixl 70 _⊗_
   open Field 𝓕 using (ring as 𝓚, same)
   open CommRing 𝓚 using (ops as O)
   open Ops (𝓚 .ops) using (zero as 𝟘, add as _⊕_, sub as _⊖_, mul as _⊗_)
 
-  infixl 60 _⊕_ _⊖_
-  infixl 70 _⊗_
   module _ (f : List K) (xs ys : ℕ → K) where
     -- The points of the pairs that f passes through.
     abbrev hits : ℕ → List K
@@ -62,6 +63,7 @@ module _ {K : Type 0} (𝓕 : Field K) where
         go (no e) r = r
 
   module _ (X Y v m : ℕ) (c : Table K) (low : Degree-below O X Y v m c) where
+    -- The rows of the curve as lists.
     abbrev Q : List (List K)
     Q = rows v X Y m (row O X c)
 
@@ -72,7 +74,7 @@ module _ {K : Type 0} (𝓕 : Field K) where
     unfolding Zero-at
     lies f z =
         sym (rows-value 𝓚 v X Y m c (coefficients O f) low)
-        ∙ ap (ev2 𝓚 Q (𝕏 O)) (sym (evS-coefficients 𝓚 f))
+        ∙ ap (ev₂ 𝓚 Q (𝕏 O)) (sym (evS-coefficients 𝓚 f))
         ∙ sym (evS-comp 𝓚 Q f (𝕏 O))
         ∙ evS-zero 𝓚 (comp O Q f) (𝕏 O) z
 

@@ -13,19 +13,28 @@ use Rattle.algebra.specs.Series.{poly, const, 𝕏, series, coefficients}
 use Rattle.algebra.specs.Curve.{Table, Degree-below, row, Zero-at, Lies}
 use Rattle.algebra.specs.Interpolation.{Same}
 use Rattle.algebra.specs.Recovery.{Walk-meets}
-use Rattle.algebra.specs.Walk.{Clear, shifted, bottom, raised, stretched, moved, Met}
+use Rattle.algebra.specs.Walk.{Clear, shifted, bottom, stretched, moved}
 use Rattle.algebra.proofs.Ring.{zero-mul, mul-zero, add-zero, zero-add}
 use Rattle.algebra.proofs.Series.{𝓢, const-smul, x-mul}
 use Rattle.algebra.proofs.Horner.{poly-ext, poly-zero, poly-first, poly-turn, down}
 use Rattle.algebra.proofs.Rows.{row-in, row-out, row-zero}
 
+module _ {K : Type 0} (O : Ops K) (X Y v : ℕ) where
+  -- The weighted degree depends on the coefficients that count, and division by x^m lowers it.
+  pub degree-same : (m : ℕ) (c e : Table K) → Same X Y e c → Degree-below O X Y v m c → Degree-below O X Y v m e
+  degree-same m c e s low i j hi hj o = s i j hi hj ∙ low i j hi hj o
+
+  pub shifted-degree : (m : ℕ) (c : Table K) → Degree-below O X Y v X c → Degree-below O X Y v X (shifted O X m c)
+  shifted-degree m c low i j hi hj o = row-zero O X c j (m + i) (λ l. low (m + i) j l hj (omega arith))
+
 module _ {K : Type 0} (𝓚 : CommRing K) (X Y : ℕ) where
+  infixl 60 _⊕_ _⊞_
+  infixl 70 _⊗_ _⊠_
   open CommRing 𝓚 using (ops as O)
   open Ops (𝓚 .ops) using (zero as 𝟘, add as _⊕_, mul as _⊗_)
   open Ops (𝓢 𝓚 .ops) using (zero as ∅, add as _⊞_, mul as _⊠_)
 
-  infixl 60 _⊕_ _⊞_
-  infixl 70 _⊗_ _⊠_
+  -- Shorter names: an element as a series, the series x, a row of a curve, a polynomial in y over the series.
   abbrev κ : K → ℕ → K
   κ = const O
 
@@ -49,9 +58,6 @@ module _ {K : Type 0} (𝓚 : CommRing K) (X Y : ℕ) where
       ∙ z
 
   -- Division by x^m.
-  pub shifted-degree : (v m : ℕ) (c : Table K) → Degree-below O X Y v X c → Degree-below O X Y v X (shifted O X m c)
-  shifted-degree v m c low i j hi hj o = row-zero O X c j (m + i) (λ l. low (m + i) j l hj (omega arith))
-
   shifted-row : (m : ℕ) (c : Table K) (j : ℕ) → ρ (shifted O X m c) j ≡ (λ i. ρ c j (m + i))
   shifted-row m c j = fun-ext (λ i. ⊎-elim
       (λ h. row-in O X (shifted O X m c) j i h)
@@ -93,6 +99,7 @@ module _ {K : Type 0} (𝓚 : CommRing K) (X Y : ℕ) where
     both-zero : (a b d : K) → b ≡ 𝟘 → d ≡ 𝟘 → a ⊗ b ⊕ d ≡ 𝟘
     both-zero a b d e f = (λ i. a ⊗ e i ⊕ f i) ∙ ap (λ t. t ⊕ 𝟘) (mul-zero 𝓚 a) ∙ add-zero 𝓚 𝟘
 
+    -- The curve with one row more.
     abbrev new : Table K
     new = stretched O g old c k
 
@@ -125,7 +132,7 @@ module _ {K : Type 0} (𝓚 : CommRing K) (X Y : ℕ) where
     next-row : (j : ℕ) → suc j < Y → ρ new (suc j) ≡ κ g ⊠ ρ old (suc j) ⊞ x ⊠ ρ old j
     next-row j l = fun-ext (λ i. at i ∙ ap (λ t. t ⊕ (x ⊠ ρ old j) i) (sym (const-smul 𝓚 g (ρ old (suc j)) i)))
       where
-        -- the last coefficient is zero, so that nothing is lost when x moves it past the end
+        -- The last coefficient is zero, so that nothing is lost when x moves it past the end.
         last : (i : ℕ) → X ≤ suc i → ρ old j i ≡ 𝟘
         last i h = row-zero O X old j i (λ b. p .light i j b (omega arith) (let m = more in omega arith))
 
@@ -209,7 +216,7 @@ module _ {K : Type 0} (𝓕 : Field K) where
         let e = shifted O X m c in
         let q : suc (suc (length f)) - 1 ≡ length f + 1 = omega arith in
         let p : length f ≡ suc (length f) - 1 = omega arith in
-        let l = shifted-degree 𝓚 X Y (length f + 1) m c (subst (λ v. Degree-below O X Y v X c) q low) in (
+        let l = shifted-degree O X Y (length f + 1) m c (subst (λ v. Degree-below O X Y v X c) q low) in (
           turn c g (h ∷ f) z m clear,
           walk-meets (moved O g e Y 0) (h ∷ f)
               (subst (λ v. Degree-below O X Y v X (moved O g e Y 0)) p (moved-degree 𝓚 X Y (length f) g e l))

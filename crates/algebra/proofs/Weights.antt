@@ -1,6 +1,6 @@
 -- The weights are the binomials of the definition: the Hasse derivative is what a program computes.
 use mathlib.Core.Path.{_≡_, refl, sym, ap, _∙_}
-use Prim.Native.Nat.{ℕ, zero, suc, _+_, _-_, _<_, _≤_}
+use Prim.Native.Nat.{ℕ, zero, suc, _+_, _-_, _<_}
 use native.Mathlib.Omega.{arith}
 use native.Mathlib.Decide.{decLt}
 use native.Mathlib.Nat.{add-suc, add-zero}
@@ -16,12 +16,13 @@ choose-past zero (suc u) h = refl
 choose-past (suc i) (suc u) h = let p = choose-past i u (omega arith) in let q = choose-past i (suc u) (omega arith) in omega arith
 
 module _ {K : Type 0} (𝓚 : CommRing K) where
-  open CommRing 𝓚 using (ops as O)
-  open Ops (𝓚 .ops) using (zero as 𝟘, one as 𝟙, add as _⊕_, mul as _⊗_)
-
   infixl 60 _⊕_
   infixl 70 _⊗_
   infixr 80 _^_
+  open CommRing 𝓚 using (ops as O)
+  open Ops (𝓚 .ops) using (zero as 𝟘, one as 𝟙, add as _⊕_, mul as _⊗_)
+
+  -- Shorter names.
   abbrev multiple : ℕ → K → K
   multiple = times O
 
@@ -81,6 +82,7 @@ module _ {K : Type 0} (𝓚 : CommRing K) where
   shuffle : (p q c x y : K) → p ⊗ q ⊗ c ⊗ x ⊗ y ≡ q ⊗ y ⊗ (p ⊗ x ⊗ c)
   shuffle p q c x y = simp (ring, 𝓚)
 
+  -- The definition with binomials and the sums with weights are the same.
   pub hasse-is : (X Y : ℕ) (a b : K) (u w : ℕ) (c : Table K) → hasse O X Y a b u w c ≡ discrepancy O X Y a b u w c
   unfolding hasse discrepancy dot term
   hasse-is X Y a b u w c =

@@ -2,9 +2,9 @@
 use mathlib.Core.Path.{_≡_, refl, sym, ap, _∙_, subst}
 use mathlib.Core.Logic.{_⊎_, inl, inr, ⊎-elim}
 use Prim.Native.Nat.{ℕ, zero, suc, _+_, _-_, _*_, _/_, _%_, _^_, _≤_, _<_}
-use native.Mathlib.Nat.{zero-mul, one-mul, add-zero, not-suc-le-zero, mod-lt, pow-suc, pow-zero, div-add-mod'}
+use native.Mathlib.Nat.{zero-mul, one-mul, add-zero, mod-lt, div-add-mod'}
 use native.Mathlib.Omega.{arith}
-use lib.Bits.{bitXor, xor-zero-r, xor-zero-l, xor-self, xor-comm, xor-assoc, xor-block, xor-shifted, xor-shr, xor-mod}
+use lib.Bits.{bitXor, xor-zero-r, xor-self, xor-comm, xor-assoc, xor-block, xor-shifted, xor-mod}
 use lib.Pow.{pow-pos}
 
 pub xor-left : (a b c : ℕ) → bitXor a (bitXor b c) ≡ bitXor b (bitXor a c)
@@ -20,13 +20,13 @@ bit x = elim (low (x % 2) (mod-lt x (let h : 0 < 2 = omega arith in h))) [ inl e
     low zero h = inl refl
     low (suc n) h = inr (omega arith)
 
--- a bit times a number
+-- A bit times a number.
 bits-mul : (g x y : ℕ) → (x ≡ 0) ⊎ (x ≡ 1) → (y ≡ 0) ⊎ (y ≡ 1) → bitXor x y * g ≡ bitXor (x * g) (y * g)
 bits-mul g x y (inl e) k = rw e (sym (ap (λ z. bitXor z (y * g)) (zero-mul g)))
 bits-mul g x y (inr e) (inl k) = rw (e, k) (sym (ap (bitXor (1 * g)) (zero-mul g) ∙ xor-zero-r (1 * g)))
 bits-mul g x y (inr e) (inr k) = rw (e, k) (zero-mul g ∙ sym (xor-self (1 * g)))
 
--- bit 0 of a sum times g
+-- Bit 0 of a sum times g.
 pub low-mul : (u v g : ℕ) → bitXor u v % 2 * g ≡ bitXor (u % 2 * g) (v % 2 * g)
 low-mul u v g = ap (λ n. n * g) (xor-mod u v 1) ∙ bits-mul g (u % 2) (v % 2) (bit u) (bit v)
 
@@ -42,7 +42,7 @@ double u v =
     let h : 0 < 2 ^ 1 = omega arith in
     sym (ap (λ x. bitXor x (v * 2)) (sym (add-zero (u * 2))) ∙ ap (bitXor (u * 2 + 0)) (sym (add-zero (v * 2))) ∙ xor-block 1 u v 0 0 h h ∙ add-zero (bitXor u v * 2))
 
--- every number below 2^m is a sum of single bits
+-- Every number below 2^m is a sum of single bits.
 pub by-bits : (P : ℕ → Type 0) (m : ℕ) → P 0 → ((i : ℕ) → i < m → P (2 ^ i)) → ((a b : ℕ) → P a → P b → P (bitXor a b)) → (a : ℕ) → a < 2 ^ m → P a
 by-bits P zero z s j a h = let e : a ≡ 0 = omega arith in rw e z
 by-bits P (suc m) z s j a h =

@@ -10,13 +10,14 @@ use Rattle.algebra.specs.Lists.{Each, Distinct}
 use Rattle.algebra.specs.Field.{Meaning, Laws, read, codes}
 use Rattle.algebra.specs.Polynomial.{value}
 use Rattle.algebra.specs.Curve.{Table, Through, Degree-below, Nonzero, Lies}
-use Rattle.algebra.specs.Interpolation.{monomials, Pairs-done, Places-done, Step, Fitted}
+use Rattle.algebra.specs.Interpolation.{monomials, Pairs-done, Places-done, Step, Fitted, Ended}
 use Rattle.algebra.specs.Walk.{Met}
 
 -- The numbers are codes.
 abbrev pub Coded : Meaning → List ℕ → Type 0
 Coded F l = Each (λ n. n < F .size) l
 
+-- The coefficients are codes.
 abbrev pub Coded-table : Meaning → Table ℕ → Type 0
 Coded-table F c = (i j : ℕ) → c i j < F .size
 
@@ -72,12 +73,12 @@ module _ (F : Meaning) where
       → Step (codes F) X Y v D (xs t) (ys t) u w p curves lead curves′ lead′
       → Places-done (codes F) X Y v D r xs ys t w u curves lead → Places-done (codes F) X Y v D r xs ys t w (suc u) curves′ lead′
 
-  -- When N pairs are done, and the monomials of weighted degree D exceed the conditions, some curve is live, and a live curve is fitted.
+  -- When N pairs are done, and the monomials of weighted degree D at most exceed the conditions, some curve is live, and a live curve is fitted.
   abbrev pub Code-run-ends : (r N conditions : ℕ) → Type 0
   Code-run-ends r N conditions =
       (X Y v D : ℕ) (xs ys : ℕ → ℕ) (curves : ℕ → Table ℕ) (lead : ℕ → ℕ) → ((j : ℕ) → Coded-table F (curves j)) → D < X
       → Pairs-done (codes F) X Y v D r xs ys N curves lead → conditions < monomials Y v D
-      → (j : ℕ) × (j < Y) × (lead j + v * j ≤ D) × Fitted (codes F) X Y v D r N xs ys (curves j)
+      → Ended (codes F) X Y v D r N xs ys curves lead
 
   -- So a curve that is not zero, of weighted degree D at most and multiplicity r at N pairs, exists.
   abbrev pub Code-interpolates : (r N conditions : ℕ) → Type 0

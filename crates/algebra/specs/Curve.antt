@@ -8,6 +8,7 @@ use lib.Dec.{ltb}
 use Rattle.algebra.specs.Ring.{Ops}
 use Rattle.algebra.specs.Series.{poly, series, coefficients}
 
+-- A table of coefficients.
 abbrev pub Table : Type 0 → Type 0
 Table K = ℕ → ℕ → K
 
@@ -18,20 +19,21 @@ choose zero (suc u) = 0
 choose (suc i) (suc u) = choose i u + choose i (suc u)
 
 module _ {K : Type 0} (O : Ops K) where
-  open Ops O using (zero as 𝟘, one as 𝟙, add as _⊕_, mul as _⊗_)
-
   infixl 60 _⊕_
   infixl 70 _⊗_
-  -- f 0 + .. + f (n - 1)
+  open Ops O using (zero as 𝟘, one as 𝟙, add as _⊕_, mul as _⊗_)
+
+  -- The sum f 0 + .. + f (n - 1).
   unfoldable pub sum : ℕ → (ℕ → K) → K
   sum zero f = 𝟘
   sum (suc n) f = sum n f ⊕ f n
 
-  -- x + .. + x, n times.
+  -- The multiple x + .. + x, n times.
   unfoldable pub times : ℕ → K → K
   times zero x = 𝟘
   times (suc n) x = times n x ⊕ x
 
+  -- The power a^n.
   unfoldable pub power : K → ℕ → K
   power a zero = 𝟙
   power a (suc n) = a ⊗ power a n
@@ -80,7 +82,7 @@ module _ {K : Type 0} (O : Ops K) where
   weight a zero (suc i) = a ⊗ weight a zero i
   weight a (suc u) (suc i) = a ⊗ weight a (suc u) i ⊕ weight a u i
 
-  -- h 0 f 0 + .. + h (n - 1) f (n - 1)
+  -- The sum h 0 f 0 + .. + h (n - 1) f (n - 1), in which h has the weights.
   unfoldable pub dot : ℕ → (ℕ → K) → (ℕ → K) → K
   dot n h f = sum n (λ i. h i ⊗ f i)
 

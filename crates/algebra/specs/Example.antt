@@ -1,12 +1,13 @@
 -- A small instance over the field of two elements.
 use mathlib.Core.Path.{_≡_}
-use mathlib.Core.List.{List, [], _∷_}
+use mathlib.Core.List.{[], _∷_}
 use Prim.Native.Nat.{ℕ, zero, suc}
-use Rattle.algebra.specs.Field.{Meaning, Laws, codes}
+use Rattle.algebra.specs.Field.{Laws, codes}
 use Rattle.algebra.specs.Prime.{prime}
 use Rattle.algebra.specs.Curve.{Table, hasse, Lies}
 use Rattle.algebra.specs.Interpolation.{Fitted}
 use Rattle.algebra.specs.Walk.{Met}
+use Rattle.algebra.specs.CodeRecovery.{at}
 
 -- The curve y, which has one column and two rows.
 abbrev pub line : Table ℕ
@@ -19,10 +20,11 @@ square zero j = 0
 square (suc zero) j = 0
 square (suc (suc i)) j = 1
 
+-- What is so over two elements.
 pub record Example : Type 0 where
   pub lawful : Laws (prime 2)
-  -- y is fitted to the pair (0, 0) with multiplicity 1,
-  pub fitted : Fitted (codes (prime 2)) 1 2 0 0 1 1 (λ _. 0) (λ _. 0) line
+  -- The curve y is fitted to the pair (0, 0) with multiplicity 1,
+  pub fitted : Fitted (codes (prime 2)) 1 2 0 0 1 1 (at (0 ∷ [])) (at (0 ∷ [])) line
   -- so that the polynomial 0 lies on it and is met, and 1 does not lie on it.
   pub lies : Lies (codes (prime 2)) 1 2 line (0 ∷ [])
   pub met : Met (codes (prime 2)) 1 2 (0 ∷ []) line

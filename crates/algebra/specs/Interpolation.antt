@@ -1,4 +1,4 @@
--- Interpolation by Koetter's method: a table of Y curves, one for each leading power of y, that meets one condition after another.
+-- Interpolation by Kötter's method: a table of Y curves, one for each leading power of y, that meets one condition after another.
 use mathlib.Core.Path.{_≡_}
 use mathlib.Core.Logic.{_≢_, _⊎_}
 use mathlib.Core.Bool.{cond}
@@ -11,7 +11,7 @@ use Rattle.algebra.specs.Curve.{Table, Through, Degree-below, Nonzero, discrep
 unfoldable pub key : (Y v i j : ℕ) → ℕ
 key Y v i j = Y * (i + v * j) + j
 
--- f 0 + .. + f (n - 1)
+-- The sum f 0 + .. + f (n - 1).
 unfoldable pub total : ℕ → (ℕ → ℕ) → ℕ
 total zero f = 0
 total (suc n) f = total n f + f n
@@ -20,7 +20,7 @@ total (suc n) f = total n f + f n
 unfoldable pub monomials : (Y v D : ℕ) → ℕ
 monomials Y v D = total Y (λ j. total (suc D) (λ i. cond (leb (i + v * j) D) 1 0))
 
--- r + (r - 1) + .. + 1, the number of the conditions of multiplicity r at one pair.
+-- The sum r + (r - 1) + .. + 1, the number of the conditions of multiplicity r at one pair.
 unfoldable pub triangle : ℕ → ℕ
 triangle r = total r (λ w. r - w)
 
@@ -58,21 +58,21 @@ abbrev pub Same : {K : Type 0} → (X Y : ℕ) → Table K → Table K → Type 
 Same X Y c e = (i j : ℕ) → i < X → j < Y → c i j ≡ e i j
 
 module _ {K : Type 0} (O : Ops K) where
-  -- x times the series f
+  -- The product of x and the series f.
   unfoldable pub up : (ℕ → K) → ℕ → K
   up f zero = O .zero
   up f (suc i) = f i
 
-  -- y^j, the curve j of the first table.
+  -- The power y^j, the curve j of the first table.
   unfoldable pub y-power : ℕ → Table K
   y-power j zero k = cond (eqb k j) (O .one) (O .zero)
   y-power j (suc i) k = O .zero
 
-  -- (x - a) c
+  -- The product (x - a) c.
   unfoldable pub linear : K → Table K → Table K
   linear a c i j = O .sub (up (λ k. c k j) i) (O .mul a (c i j))
 
-  -- d c - e g
+  -- The difference d c - e g.
   unfoldable pub mix : K → Table K → K → Table K → Table K
   mix d c e g i j = O .sub (O .mul d (c i j)) (O .mul e (g i j))
 
@@ -122,3 +122,8 @@ pub record Fitted {K : Type 0} (O : Ops K) (X Y v D r N : ℕ) (xs ys : ℕ → 
   pub some : Nonzero O X Y c
   pub within : Degree-below O X Y v (suc D) c
   pub through : Through O X Y r N xs ys c
+
+-- How the run over N pairs ends: some curve is live, and a live curve is fitted.
+pub record Ended {K : Type 0} (O : Ops K) (X Y v D r N : ℕ) (xs ys : ℕ → K) (curves : ℕ → Table K) (lead : ℕ → ℕ) : Type 0 where
+  pub live : (j : ℕ) × (j < Y) × (lead j + v * j ≤ D)
+  pub fitted : (j : ℕ) → j < Y → lead j + v * j ≤ D → Fitted O X Y v D r N xs ys (curves j)

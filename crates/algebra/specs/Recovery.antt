@@ -3,11 +3,11 @@ use mathlib.Core.Path.{_≡_}
 use mathlib.Core.List.{List}
 use Prim.Native.Nat.{ℕ, zero, suc, _+_, _-_, _*_, _/_, _≤_, _<_}
 use lib.ListN.{length}
-use Rattle.algebra.specs.Ring.{Ops, Field}
+use Rattle.algebra.specs.Ring.{Field}
 use Rattle.algebra.specs.Lists.{Each, Distinct}
 use Rattle.algebra.specs.Series.{ev}
 use Rattle.algebra.specs.Curve.{Table, Through, Degree-below, Nonzero, Lies}
-use Rattle.algebra.specs.Interpolation.{monomials, Pairs-done, Places-done, Step, Fitted}
+use Rattle.algebra.specs.Interpolation.{monomials, Pairs-done, Places-done, Step, Fitted, Ended}
 use Rattle.algebra.specs.Walk.{Met}
 
 -- A decision, counted.
@@ -54,11 +54,11 @@ module _ {K : Type 0} (𝓕 : Field K) where
       → Step (ring .ops) X Y v D (xs t) (ys t) u w p curves lead curves′ lead′
       → Places-done (ring .ops) X Y v D r xs ys t w u curves lead → Places-done (ring .ops) X Y v D r xs ys t w (suc u) curves′ lead′
 
-  -- When N pairs are done, and the monomials of weighted degree D exceed the conditions, some curve is live, and a live curve is fitted.
+  -- When N pairs are done, and the monomials of weighted degree D at most exceed the conditions, some curve is live, and a live curve is fitted.
   abbrev pub Run-ends : (r N conditions : ℕ) → Type 0
   Run-ends r N conditions =
       (X Y v D : ℕ) (xs ys : ℕ → K) (curves : ℕ → Table K) (lead : ℕ → ℕ) → D < X → Pairs-done (ring .ops) X Y v D r xs ys N curves lead
-      → conditions < monomials Y v D → (j : ℕ) × (j < Y) × (lead j + v * j ≤ D) × Fitted (ring .ops) X Y v D r N xs ys (curves j)
+      → conditions < monomials Y v D → Ended (ring .ops) X Y v D r N xs ys curves lead
 
   -- So a curve that is not zero, of weighted degree D at most and multiplicity r at N pairs, exists.
   abbrev pub Interpolates : (r N conditions : ℕ) → Type 0

@@ -10,6 +10,7 @@ pub record Ops (K : Type 0) : Type 0 where
   pub sub : K → K → K
   pub mul : K → K → K
 
+-- A commutative ring with one.
 pub record CommRing (K : Type 0) : Type 0 where
   pub ops : Ops K
   pub add-assoc : (a b c : K) → ops .add (ops .add a b) c ≡ ops .add a (ops .add b c)

@@ -6,10 +6,10 @@ use Rattle.algebra.specs.Ring.{Ops}
 use Rattle.algebra.specs.Lists.{Each}
 
 module _ {R : Type 0} (O : Ops R) where
-  open Ops O using (zero as 𝟘, add as _⊕_, mul as _⊗_)
-
   infixl 60 _⊕_
   infixl 70 _⊗_
+  open Ops O using (zero as 𝟘, add as _⊕_, mul as _⊗_)
+
   -- The value at a point, by Horner's rule.
   abbrev pub ev : List R → R → R
   ev [] a = 𝟘
@@ -19,7 +19,7 @@ module _ {R : Type 0} (O : Ops R) where
   abbrev pub AllZero : List R → Type 0
   AllZero p = Each (λ c. c ≡ 𝟘) p
 
-  -- p 0 + p 1 y + .. + p (n - 1) y^(n - 1), the coefficients given by a function.
+  -- The value p 0 + p 1 y + .. + p (n - 1) y^(n - 1), the coefficients given by a function.
   abbrev pub poly : ℕ → (ℕ → R) → R → R
   poly zero p y = 𝟘
   poly (suc n) p y = p 0 ⊕ y ⊗ poly n (λ j. p (suc j)) y
@@ -29,10 +29,10 @@ abbrev pub tail : {K : Type 0} → (ℕ → K) → ℕ → K
 tail f n = f (suc n)
 
 module _ {K : Type 0} (O : Ops K) where
-  open Ops O using (zero as 𝟘, one as 𝟙, add as _⊕_, sub as _⊖_, mul as _⊗_)
-
   infixl 60 _⊕_ _⊖_
   infixl 70 _⊗_
+  open Ops O using (zero as 𝟘, one as 𝟙, add as _⊕_, sub as _⊖_, mul as _⊗_)
+
   -- The product: the coefficient n is the sum of the f i g (n - i).
   abbrev pub smul : (ℕ → K) → (ℕ → K) → ℕ → K
   smul f g zero = f 0 ⊗ g 0

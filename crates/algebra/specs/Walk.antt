@@ -1,8 +1,8 @@
--- The walk of Roth and Ruckenstein, which finds the polynomials on a curve coefficient by coefficient:
+-- The walk, which finds the polynomials on a curve coefficient by coefficient:
 -- divide the curve by the powers of x that divide it, take a root g of its value at x = 0, put x y + g for y, and go on.
 use mathlib.Core.Path.{_≡_}
 use mathlib.Core.List.{List, [], _∷_}
-use Prim.Native.Nat.{ℕ, zero, suc, _+_, _<_, _≤_}
+use Prim.Native.Nat.{ℕ, zero, suc, _+_, _<_}
 use Rattle.algebra.specs.Ring.{Ops}
 use Rattle.algebra.specs.Series.{poly}
 use Rattle.algebra.specs.Curve.{Table, row}
@@ -20,7 +20,7 @@ module _ {K : Type 0} (O : Ops K) where
   abbrev pub bottom : ℕ → Table K → K → K
   bottom Y c y = poly O Y (λ j. c 0 j) y
 
-  -- x y old, with the row k of c at the power 0 of y.
+  -- The product of x y and old, with the row k of c at the power 0 of y.
   abbrev pub raised : Table K → Table K → ℕ → Table K
   raised old c k i zero = c i k
   raised old c k zero (suc j) = O .zero
@@ -30,7 +30,7 @@ module _ {K : Type 0} (O : Ops K) where
   abbrev pub stretched : K → Table K → Table K → ℕ → Table K
   stretched g old c k i j = O .add (O .mul g (old i j)) (raised old c k i j)
 
-  -- x y + g put for y in the n rows of c from k on.
+  -- What x y + g put for y gives in the n rows of c from k on.
   abbrev pub moved : K → Table K → (n k : ℕ) → Table K
   moved g c zero k = λ i j. O .zero
   moved g c (suc n) k = stretched g (moved g c n (suc k)) c k

@@ -16,7 +16,7 @@ pub trait Scalar: Sized {
     ghost laws: { Field Self };
 }
 
-// All theorems over a field.
+// All theorems over a field. The functions below each state one of them, with its numbers.
 fn over_fields<K: Scalar>()
     ensures { λ _. ⌜ Recovery (K·Scalar .laws) ⌝ }
 {}
@@ -26,7 +26,7 @@ fn over_codes()
     ensures { λ _. ⌜ CodeRecovery ⌝ }
 {}
 
-// What a curve of weighted degree below r t, with multiplicity r at different pairs, has to do with a polynomial through t of them: it vanishes on it.
+// A curve with multiplicity r at different pairs, of weighted degree below r t, vanishes on every polynomial through t of them.
 pub fn curve_vanishes<K: Scalar>()
     ensures elements { λ _. ⌜ ((r t : ℕ) → Vanishing (K·Scalar .laws) r t (r * t)) ⌝ }
     ensures coded { λ _. ⌜ ((F : Meaning) → Laws F → (r t : ℕ) → Code-vanishing F r t (r * t)) ⌝ }
@@ -53,7 +53,7 @@ pub fn polynomials_are_unique<K: Scalar>()
     over_codes();
 }
 
-// A step of Koetter's method keeps the invariant, as long as the columns of the table hold the degree.
+// A step of Kötter's method keeps the invariant, as long as the columns of the table hold the degree.
 pub fn step_keeps<K: Scalar>()
     ensures elements { λ _. ⌜ ((columns degree : ℕ) → degree < columns → Step-keeps (K·Scalar .laws) columns degree) ⌝ }
     ensures coded { λ _. ⌜ ((F : Meaning) → Laws F → (columns degree : ℕ) → degree < columns → Code-step-keeps F columns degree) ⌝ }
@@ -96,6 +96,7 @@ pub fn lists_are_short()
     over_codes();
 }
 
+// A small instance, in which what the theorems assume is met.
 fn over_two_elements()
     ensures { λ _. ⌜ Example ⌝ }
 {}

@@ -131,7 +131,7 @@ module _ (m : Meaning) where
   abbrev pub Lowest : ℕ → ℕ
   Lowest v = fewest (λ x. nonzeros (m .word x)) (m .n) (Kept (λ x. not (blank x)) v)
 
-  pub lowest-more : (v best r : ℕ) → 0 < m .p → v < how-many m → best ≡ Lowest v → r ≡ lower m best (message m v) → r ≡ Lowest (v + 1)
+  pub lowest-more : (v best r : ℕ) → 0 < m .p → v < how-many m → best ≡ Lowest v → r ≡ lower m best v → r ≡ Lowest (v + 1)
   lowest-more v best r pos h e er =
       er ∙ by (blank (message m v)) (message m v) ∙ sym (ap (fewest (λ x. nonzeros (m .word x)) (m .n)) (kept-more (λ x. not (blank x)) v pos h))
     where

@@ -29,6 +29,6 @@ added m s t v = cond (passes m s t v) (message m v) []
 abbrev pub written : ℕ → List ℕ → List ℕ → List ℕ
 written at xs buf = paste buf at xs (length xs)
 
--- the fewer of best and the nonzero letters of a word, where its message is not zero
-abbrev pub lower : Meaning → ℕ → List ℕ → ℕ
-lower m best x = cond (blank x) best (min best (nonzeros (m .word x)))
+-- the fewer of best and the nonzero letters in the word of message v, where that is not the zero message
+abbrev pub lower : Meaning → ℕ → ℕ → ℕ
+lower m best v = cond (blank (message m v)) best (min best (nonzeros (m .word (message m v))))

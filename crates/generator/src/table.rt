@@ -11,7 +11,7 @@ ghost use Rattle.code.specs.Meaning.{isSheet, listing};
 ghost use Rattle.code.specs.Messages.{each};
 ghost use Rattle.generator.specs.Generator.{table-size, max-messages};
 ghost use Rattle.generator.specs.Values.{meaning-of, distance-of, making, Made};
-ghost use Rattle.generator.specs.Steps.{how-many, message, passes, added, written, lower};
+ghost use Rattle.generator.specs.Steps.{how-many, passes, added, written, lower};
 use crate::words::MAX_PLACES;
 use crate::words::MAX_ROWS;
 use crate::words::TABLE_SIZE;
@@ -101,7 +101,7 @@ impl<F: Field> Generator<F> {
     // The fewer of best and the nonzero letters of message v's word, where the message is not zero.
     fn fewer(&self, v: usize, best: usize) -> usize
         requires made { ⌜ Made (F·Field .means) (now self) ⌝ }
-        ensures { λ r. ⌜ r ≡ lower (meaning-of (F·Field .means) (now (self .entry))) best (message (meaning-of (F·Field .means) (now (self .entry))) v) ⌝ }
+        ensures { λ r. ⌜ r ≡ lower (meaning-of (F·Field .means) (now (self .entry))) best v ⌝ }
     {
         let mut letters = [0u8; MAX_ROWS];
         let message = &mut letters[0..self.k];

@@ -5,13 +5,16 @@ ghost use lib.ListN.{length};
 ghost use Rattle.generator.specs.Generator.{letter, gen-word, nonzeros, blank, unit, unit-row, has-identity, gen-shaped, max-rows, max-places, table-size};
 use field::Field;
 
-// the limits: the rows and the columns of a table, the messages, and the letters that a table has room for
+// The most rows of a table.
 pub(crate) const MAX_ROWS: usize = 8;
 
+// The most columns.
 pub(crate) const MAX_PLACES: usize = 16;
 
+// The most messages.
 pub(crate) const MAX_MESSAGES: u128 = 256;
 
+// The letters that a table has room for.
 pub(crate) const TABLE_SIZE: usize = MAX_ROWS * MAX_PLACES;
 
 // One letter of the word: the sum of message letter times row letter.
