@@ -53,3 +53,14 @@ find-first test b (suc left) i lo hi e =
 pub smallest-none : (test : ℕ → Bool) (b left : ℕ) → ((i : ℕ) → b ≤ i → i < b + left → test i ≡ false) → None ≡ smallest test b left
 smallest-none test b zero h = refl
 smallest-none test b (suc left) h = sym (cond-false (test b) _ _ (h b (omega arith) (omega arith)) ∙ sym (smallest-none test (suc b) left (λ i lo hi. h i (omega arith) (omega arith))))
+
+-- what is found passes, and lies where it was looked for
+pub smallest-passes : (test : ℕ → Bool) (b left t : ℕ) → smallest test b left ≡ Some t → (test t ≡ true) × (b ≤ t) × (t < b + left)
+smallest-passes test b zero t e = absurd (let z : _≡_ {A = ℕ} 0 1 = cc in omega arith)
+smallest-passes test b (suc left) t e =
+    ⊎-elim
+    (λ y. let here = cond-true (test b) (Some b) (smallest test (suc b) left) y in let q : b ≡ t = cc in (ap test (sym q) ∙ y, omega arith, omega arith))
+    (λ n.
+        let r = smallest-passes test (suc b) left t (sym (cond-false (test b) (Some b) (smallest test (suc b) left) n) ∙ e) in
+        (r .0, omega (arith, r .1), omega (arith, r .2)))
+    (cases-bool (test b))

@@ -1,8 +1,8 @@
 // What a fitting is opened with, checked: k coefficients, agreement t, a limit of pairs, and the multiplicity by which the limit meets the counting rule.
 ghost use mathlib.Core.Path.{_≡_};
+ghost use mathlib.Core.Bool.{true};
 ghost use Prim.Native.Nat.{_-_, _<_, _≤_};
-ghost use Rattle.std.specs.declared.option.Option.the-variants.{Some};
-ghost use Rattle.counting.specs.Counting.{limits, by-counting};
+ghost use Rattle.counting.specs.Counting.{limits, suits};
 
 // The most coefficients of a polynomial, the highest agreement, and more pairs than any limit allows.
 pub const MAX_COEFFICIENTS: usize = 16;
@@ -20,5 +20,7 @@ pub struct Plan {
     ghost t_low: { 1 ≤ t },
     ghost t_high: { t ≤ 64 },
     ghost few: { limit < 1024 },
-    ghost counted: { by-counting limits (k - 1) t limit ≡ Some r },
+    ghost r_low: { 1 ≤ r },
+    ghost r_high: { r ≤ 4 },
+    ghost counted: { suits limits (k - 1) t limit r ≡ true },
 }

@@ -2,7 +2,7 @@
 ghost use mathlib.Core.Path.{_≡_};
 ghost use mathlib.Core.Bool.{true, _&&_, _||_};
 ghost use mathlib.Core.List.{[], _∷_, _++_};
-ghost use Prim.Native.Nat.{_<_};
+ghost use Prim.Native.Nat.{_<_, _≤_};
 ghost use lib.ListN.{length};
 ghost use lib.Dec.{eqb};
 ghost use Rattle.interpolation.specs.Fitting.{shaped, Opens, points-of, values-of, among};
@@ -41,6 +41,16 @@ impl Pairs {
         ensures values { λ r. ⌜ values-of r ≡ [] ⌝ }
     {
         Pairs { points: [0; MAX_PAIRS], values: [0; MAX_PAIRS], held: 0 }
+    }
+
+    // How many pairs are held.
+    pub(crate) fn len(&self) -> usize
+        ensures value { λ r. ⌜ r ≡ length (points-of (now (self .entry))) ⌝ }
+        ensures values { λ r. ⌜ r ≡ length (values-of (now (self .entry))) ⌝ }
+        ensures few { λ r. ⌜ r ≤ 1024 ⌝ }
+        ensures held { λ r. ⌜ r ≡ now (self .entry) .held ⌝ }
+    {
+        self.held
     }
 
     // Whether the pair is held.

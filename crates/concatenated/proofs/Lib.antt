@@ -1,0 +1,10 @@
+pub mod Powers
+pub mod Rows
+pub mod Blocks
+pub mod Law
+pub mod Parts
+pub mod Written
+pub mod Gathered
+pub mod Lifted
+pub mod Risen
+pub mod Listed

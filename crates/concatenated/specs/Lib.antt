@@ -1,0 +1,5 @@
+pub mod Lifted
+pub mod Concatenation
+pub mod Reaching
+pub mod Writing
+pub mod Lifting
