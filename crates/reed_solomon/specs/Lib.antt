@@ -1,2 +1,4 @@
 pub mod Least
 pub mod ReedSolomon
+pub mod Gathered
+pub mod Few
