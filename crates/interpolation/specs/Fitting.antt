@@ -2,20 +2,20 @@
 use mathlib.Core.Path.{_≡_}
 use mathlib.Core.Bool.{Bool, true, false, cond, _&&_, _||_}
 use mathlib.Core.List.{List, [], _∷_, _++_}
-use Prim.Native.Nat.{ℕ, _+_, _-_}
+use Prim.Native.Nat.{ℕ, _+_, _-_, _*_, _≤_}
 use lib.Dec.{eqb, ltb, leb}
 use lib.ListN.{length, take}
-use Rattle.std.specs.shelf.Lists.{kept-by}
 use Rattle.std.specs.declared.option.Option.{Option}
 use Rattle.std.specs.declared.option.Option.the-variants.{None, Some}
 use Rattle.std.specs.declared.result.Result.{Result}
 use Rattle.std.specs.declared.result.Result.the-variants.{Ok, Err}
 use Rattle.fault.specs.declared.Fault.{Fault}
 use Rattle.fault.specs.declared.Fault.the-variants.{Shape, Place, Letter, Reach as OutOfReach, Twice, Full}
-use Rattle.algebra.specs.Field.{Meaning}
-use Rattle.algebra.specs.CodeRecovery.{score}
+use Rattle.algebra.specs.Field.{Meaning, codes}
+use Rattle.algebra.specs.Interpolation.{Fitted}
+use Rattle.algebra.specs.CodeRecovery.{Pairs as Different, table, at}
 use Rattle.counting.specs.Counting.{limits, by-counting}
-use Rattle.code.specs.Messages.{messages}
+use Rattle.interpolation.specs.Size.{columns, rows}
 use Rattle.interpolation.specs.declared.plan.Plan.{Plan}
 use Rattle.interpolation.specs.declared.pairs.Pairs.{Pairs}
 
@@ -63,6 +63,12 @@ abbrev pub kept : Result ℕ Fault → List ℕ → ℕ → List ℕ
 kept (Ok n) l x = l ++ x ∷ []
 kept (Err f) l x = l
 
--- the list: the polynomials of k coefficients through at least t of the pairs, in rising order
-abbrev pub recovered : Meaning → (k t : ℕ) → List ℕ → List ℕ → List (List ℕ)
-recovered F k t xs ys = kept-by (λ f. leb t (score F xs ys f)) (messages (F .size) k)
+-- the pairs taken: different pairs of codes, no more than the limit
+pub record Gathered (F : Meaning) (limit : ℕ) (xs ys : List ℕ) : Type 0 where
+  pub pairs : Different F xs ys
+  pub few : length xs ≤ limit
+
+-- a curve that is not zero, of multiplicity r at every pair taken, and of weighted degree below r t
+pub record Around (F : Meaning) (k t r : ℕ) (xs ys cells : List ℕ) : Type 0 where
+  pub pairs : Different F xs ys
+  pub fitted : Fitted (codes F) columns rows (k - 1) (r * t - 1) r (length xs) (at xs) (at ys) (table F columns cells)

@@ -2,7 +2,7 @@
 ghost use mathlib.Core.Path.{_≡_};
 ghost use mathlib.Core.Bool.{true, _&&_, _||_};
 ghost use mathlib.Core.List.{[], _∷_, _++_};
-ghost use Prim.Native.Nat.{_<_, _≤_};
+ghost use Prim.Native.Nat.{_*_, _-_, _<_, _≤_};
 ghost use lib.ListN.{length};
 ghost use lib.Dec.{eqb};
 ghost use Rattle.interpolation.specs.Fitting.{shaped, Opens, points-of, values-of, among};
@@ -35,6 +35,15 @@ pub fn open(k: usize, t: usize, limit: usize) -> Result<Plan, Fault>
     }
 }
 
+impl Plan {
+    // The weighted degree of the curve.
+    pub(crate) fn degree(&self) -> usize
+        ensures { λ d. ⌜ d ≡ now (self .entry) .r * now (self .entry) .t - 1 ⌝ }
+    {
+        self.r * self.t - 1
+    }
+}
+
 impl Pairs {
     pub(crate) fn new() -> Pairs
         ensures points { λ r. ⌜ points-of r ≡ [] ⌝ }
@@ -51,6 +60,19 @@ impl Pairs {
         ensures held { λ r. ⌜ r ≡ now (self .entry) .held ⌝ }
     {
         self.held
+    }
+
+    // The points of the pairs, and their values.
+    pub(crate) fn points(&self) -> &[u8]
+        ensures { λ r. ⌜ now r ≡ points-of (now (self .entry)) ⌝ }
+    {
+        &self.points[0..self.held]
+    }
+
+    pub(crate) fn values(&self) -> &[u8]
+        ensures { λ r. ⌜ now r ≡ values-of (now (self .entry)) ⌝ }
+    {
+        &self.values[0..self.held]
     }
 
     // Whether the pair is held.

@@ -1,0 +1,10 @@
+use mathlib.Core.Path.{_≡_}
+use lib.ListN.{length}
+use Rattle.interpolation.specs.Size.{cells}
+use Rattle.interpolation.specs.Steps.{raised-at, Row-set}
+use Rattle.interpolation.proofs.steps.raise_row.Given as given
+
+abbrev pub Inv-loop-i : given.InvT-loop-i
+Inv-loop-i l =
+    Row-set (l .i) (l .width) (l .j) (raised-at (l .entry .curve .cells) (l .j)) (l .entry .curve .cells) (l .curve .cells)
+    × (length (l .curve .cells) ≡ cells)
