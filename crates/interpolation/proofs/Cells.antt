@@ -3,7 +3,7 @@ use mathlib.Core.Path.{_≡_, refl, sym, _∙_, ap, subst}
 use mathlib.Core.Bool.{Bool, true, false, cond}
 use mathlib.Core.Logic.{_≢_, ⊎-elim}
 use mathlib.Core.List.{List}
-use Prim.Native.Nat.{ℕ, zero, suc, _+_, _*_, _-_, _<_, _≤_}
+use Prim.Native.Nat.{ℕ, suc, _+_, _*_, _-_, _<_, _≤_}
 use native.Mathlib.Omega.{arith}
 use lib.Dec.{ltb, leb}
 use lib.ListN.{length, getD, set, length-set}
@@ -112,6 +112,7 @@ rows-more X lo j f g old mid new w low is rs r = record {
   where
     again : (i b : ℕ) → i < X b → j ≡ b → cell new i b ≡ f b i
     again i b h e = subst (λ x. cell new i x ≡ f x i) e (let l = subst (λ x. i < X x) (sym e) h in r .done i (omega arith) l ∙ is i l)
+
     aside : (i b : ℕ) → i < columns → X b ≤ i → j ≡ b → cell new i b ≡ cell old i b
     aside i b h u e = subst (λ x. cell new i x ≡ cell old i x) e (let l = subst (λ x. X x ≤ i) (sym e) u in r .after i l h ∙ rs .beside i j h l)
 

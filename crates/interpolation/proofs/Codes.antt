@@ -2,9 +2,7 @@
 use mathlib.Core.Path.{_≡_, refl, sym, _∙_, ap, ap₂}
 use mathlib.Core.Bool.{Bool, true, false, cond}
 use Prim.Native.Nat.{ℕ, _<_}
-use native.Mathlib.Omega.{arith}
 use lib.Dec.{ltb}
-use Rattle.algebra.specs.Ring.{Ops}
 use Rattle.algebra.specs.Field.{Meaning, Laws, read}
 use Rattle.algebra.proofs.FirstFound.{read-below, read-lt}
 use Rattle.algebra.proofs.Ring.{mul-zero}

@@ -1,22 +1,21 @@
 -- The steps of the descent.
-use mathlib.Core.Path.{_≡_, refl, sym, _∙_, ap, ap₂, subst, subst₂}
-use mathlib.Core.Bool.{Bool, true, false, cond}
+use mathlib.Core.Path.{_≡_, sym, _∙_, ap, ap₂, subst, subst₂}
+use mathlib.Core.Bool.{true, false}
 use mathlib.Core.List.{List, [], _∷_, _++_}
-use Prim.Native.Nat.{ℕ, zero, suc, _+_, _*_, _-_, _<_, _≤_}
+use Prim.Native.Nat.{ℕ, suc, _+_, _*_, _-_, _<_, _≤_}
 use native.Mathlib.Omega.{arith}
-use lib.ListN.{length, take, getD, set}
+use lib.ListN.{length, take, set}
 use lib.Dec.{eqb}
 use borrow.Author.Tests.{false-eqb}
 use Rattle.std.proofs.shelf.Lists.{append-assoc, append-nil, length-take-le, take-more-set, take-take, take-set, getD-take}
-use Rattle.algebra.specs.Field.{Meaning, Laws, read, codes}
+use Rattle.algebra.specs.Field.{Meaning, Laws, codes}
 use Rattle.algebra.specs.Polynomial.{value}
-use Rattle.algebra.specs.Curve.{Degree-below, Lies}
+use Rattle.algebra.specs.Curve.{Degree-below}
 use Rattle.algebra.specs.Walk.{moved, bottom}
-use Rattle.algebra.specs.CodeRecovery.{table, score}
+use Rattle.algebra.specs.CodeRecovery.{table}
 use Rattle.algebra.proofs.CodeRecovery.{code-lies-same, code-root, code-moved-lies, code-moved-degree}
-use Rattle.code.specs.Messages.{isRow}
 use Rattle.code.proofs.Alone.{row-cons}
-use Rattle.interpolation.specs.Size.{columns, rows}
+use Rattle.interpolation.specs.Size.{columns}
 use Rattle.interpolation.specs.declared.steps.Region.{Region}
 use Rattle.interpolation.specs.declared.walk.Search.{Search}
 use Rattle.interpolation.specs.declared.walk.Tally.{Tally}

@@ -1,5 +1,5 @@
 -- The curve divided by a power of x, and its value at x = 0.
-use mathlib.Core.Path.{_≡_, refl, sym, _∙_, ap, ap₂, subst}
+use mathlib.Core.Path.{_≡_, refl, sym, _∙_, ap, ap₂}
 use mathlib.Core.Bool.{Bool, true, false, cond}
 use mathlib.Core.Logic.{⊎-elim}
 use mathlib.Core.List.{List, [], _∷_}
@@ -16,13 +16,13 @@ use Rattle.algebra.specs.Curve.{row, Degree-below, Lies}
 use Rattle.algebra.specs.Interpolation.{Same}
 use Rattle.algebra.specs.Walk.{shifted, bottom}
 use Rattle.algebra.specs.CodeRecovery.{table}
-use Rattle.algebra.proofs.Rows.{row-in, row-out, row-zero}
+use Rattle.algebra.proofs.Rows.{row-in, row-zero}
 use Rattle.algebra.proofs.Values.{horner, by-horner}
 use Rattle.algebra.proofs.CodeRecovery.{code-lies-same, code-shifted-lies}
 use Rattle.interpolation.specs.Size.{columns}
 use Rattle.interpolation.specs.declared.steps.Region.{Region}
-use Rattle.interpolation.specs.Steps.{cell, wide-at, Light, lowered-at, Divided, Lowered, Foot-of}
-use Rattle.interpolation.proofs.Codes.{read-zero, sum-first, mixed-none, sum-none}
+use Rattle.interpolation.specs.Steps.{cell, wide-at, Light, Lowered, Foot-of}
+use Rattle.interpolation.proofs.Codes.{read-zero, sum-first, sum-none}
 use Rattle.interpolation.proofs.Narrowing.{code-narrow}
 
 -- the region with fewer powers of x

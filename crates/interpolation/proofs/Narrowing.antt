@@ -1,11 +1,11 @@
 -- A curve whose coefficients outside a region are zero has the same polynomials on it as its region.
-use mathlib.Core.Path.{_≡_, refl, sym, _∙_, ap, fun-ext}
+use mathlib.Core.Path.{_≡_, sym, _∙_, ap, fun-ext}
 use mathlib.Core.Logic.{⊎-elim}
 use mathlib.Core.List.{List, map}
-use Prim.Native.Nat.{ℕ, zero, suc, _+_, _*_, _-_, _<_, _≤_}
+use Prim.Native.Nat.{ℕ, zero, suc, _+_, _-_, _<_, _≤_}
 use native.Mathlib.Omega.{arith}
 use Rattle.std.proofs.shelf.Tests.{cases-lt}
-use Rattle.algebra.specs.Ring.{Ops, CommRing}
+use Rattle.algebra.specs.Ring.{CommRing}
 use Rattle.algebra.specs.Field.{Meaning, Laws, codes}
 use Rattle.algebra.specs.Series.{poly, series, coefficients}
 use Rattle.algebra.specs.Curve.{Table, row, Zero-at, Lies}

@@ -1,17 +1,17 @@
 -- The run over the pairs: how the table's invariant begins, goes on and ends.
-use mathlib.Core.Path.{_≡_, refl, sym, ap, ap₂, _∙_, subst}
+use mathlib.Core.Path.{_≡_, sym, ap, _∙_, subst}
 use mathlib.Core.Bool.{cond, false}
-use mathlib.Core.Logic.{_≢_, _⊎_, inl, inr, ⊎-elim}
+use mathlib.Core.Logic.{⊎-elim}
 use mathlib.Core.List.{List}
-use Prim.Native.Nat.{ℕ, zero, suc, _+_, _*_, _-_, _/_, _<_, _≤_}
+use Prim.Native.Nat.{ℕ, suc, _+_, _*_, _-_, _/_, _<_, _≤_}
 use native.Mathlib.Omega.{arith}
 use native.Mathlib.Numerals.{add-one}
-use lib.ListN.{length, getD}
+use lib.ListN.{length}
 use lib.Dec.{eqb}
 use borrow.Author.Tests.{eq-eqb, ne-eqb}
 use Rattle.algebra.specs.Field.{Meaning, Laws, read, codes}
-use Rattle.algebra.specs.Curve.{Table, discrepancy}
-use Rattle.algebra.specs.Interpolation.{key, total, triangle, monomials, Conditions, All, Upto, Column, Good, Inv, Pairs-done, Columns-done, Places-done, Fitted}
+use Rattle.algebra.specs.Curve.{discrepancy}
+use Rattle.algebra.specs.Interpolation.{key, total, triangle, monomials, All, Upto, Pairs-done, Columns-done, Places-done, Fitted}
 use Rattle.algebra.specs.CodeRecovery.{at, table, Coded-table}
 use Rattle.algebra.proofs.FirstFound.{read-below, read-lt}
 use Rattle.algebra.proofs.Elements.{decode, field}

@@ -1,11 +1,10 @@
 -- Sums of codes whose last terms are zero, and the derivative as it is computed.
-use mathlib.Core.Path.{_≡_, refl, sym, ap, ap₂, _∙_}
+use mathlib.Core.Path.{_≡_, sym, ap, ap₂, _∙_}
 use mathlib.Core.Logic.{⊎-elim}
 use mathlib.Core.List.{List}
-use Prim.Native.Nat.{ℕ, zero, suc, _+_, _*_, _-_, _<_, _≤_}
+use Prim.Native.Nat.{ℕ, zero, suc, _+_, _*_, _<_, _≤_}
 use native.Mathlib.Omega.{arith}
 use Rattle.std.proofs.shelf.Tests.{cases-lt}
-use Rattle.algebra.specs.Ring.{Ops}
 use Rattle.algebra.specs.Field.{Meaning, Laws, read, codes}
 use Rattle.algebra.specs.Curve.{sum, weight, dot, discrepancy, Degree-below}
 use Rattle.algebra.specs.CodeRecovery.{at, table}

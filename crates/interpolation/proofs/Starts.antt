@@ -1,8 +1,8 @@
 -- Where the walk starts, and what it has at its end.
-use mathlib.Core.Path.{_≡_, refl, sym, _∙_, ap, subst}
-use mathlib.Core.Bool.{Bool, true, false}
-use mathlib.Core.List.{List, [], _∷_, _++_}
-use Prim.Native.Nat.{ℕ, zero, suc, _+_, _*_, _-_, _<_, _≤_}
+use mathlib.Core.Path.{_≡_, sym, _∙_, ap, subst}
+use mathlib.Core.Bool.{true, false}
+use mathlib.Core.List.{List, []}
+use Prim.Native.Nat.{ℕ, _+_, _*_, _-_, _<_, _≤_}
 use native.Mathlib.Omega.{arith}
 use lib.ListN.{length, replicate}
 use borrow.Author.Tests.{leb-true}
@@ -11,8 +11,6 @@ use Rattle.algebra.specs.Curve.{Degree-below, Lies}
 use Rattle.algebra.specs.CodeRecovery.{table, score}
 use Rattle.code.specs.Messages.{isRow}
 use Rattle.interpolation.specs.Size.{columns, rows}
-use Rattle.interpolation.specs.declared.steps.Region.{Region}
-use Rattle.interpolation.specs.declared.walk.Search.{Search}
 use Rattle.interpolation.specs.declared.walk.Tally.{Tally}
 use Rattle.interpolation.specs.Steps.{Light}
 use Rattle.interpolation.specs.Recovered.{recovered}

@@ -1,22 +1,21 @@
 -- What the code does to its table is a step of the method.
-use mathlib.Core.Path.{_≡_, refl, sym, ap, ap₂, _∙_, subst}
-use mathlib.Core.Logic.{_≢_, _⊎_, inl, inr}
+use mathlib.Core.Path.{_≡_, refl, sym, ap, ap₂, _∙_}
+use mathlib.Core.Logic.{_≢_, inl, inr}
 use mathlib.Core.List.{List}
-use Prim.Native.Nat.{ℕ, zero, suc, _+_, _*_, _-_, _<_, _≤_}
+use Prim.Native.Nat.{ℕ, zero, suc, _+_, _*_, _<_, _≤_}
 use native.Mathlib.Omega.{arith}
 use native.Mathlib.Decide.{ℕ-discrete, decLt, decLe}
-use lib.ListN.{getD}
 use Rattle.algebra.specs.Field.{Meaning, Laws, read, codes}
-use Rattle.algebra.specs.Curve.{Table, discrepancy, Degree-below}
-use Rattle.algebra.specs.Interpolation.{key, Same, up, linear, mix, Step}
+use Rattle.algebra.specs.Curve.{discrepancy, Degree-below}
+use Rattle.algebra.specs.Interpolation.{key, Same, up, linear, mix}
 use Rattle.algebra.specs.CodeRecovery.{at, table}
 use Rattle.algebra.proofs.FirstFound.{read-below, read-lt}
 use Rattle.algebra.proofs.Carried.{some}
 use Rattle.interpolation.specs.declared.led.LedCurve.{LedCurve}
 use Rattle.interpolation.specs.Size.{columns, rows}
 use Rattle.interpolation.specs.Weighed.{Weighed}
-use Rattle.interpolation.specs.Region.{width, cell, mixed, lifted, mixed-cell, lifted-cell, Changed}
-use Rattle.interpolation.specs.Stepped.{led, key-of, Valued, Chosen, Taken, Applied, curves-of, lead-of, Bounded, Stepped}
+use Rattle.interpolation.specs.Region.{width, cell, lifted, mixed-cell, lifted-cell, Changed}
+use Rattle.interpolation.specs.Stepped.{led, key-of, Valued, Chosen, Applied, curves-of, lead-of, Bounded, Stepped}
 use Rattle.interpolation.proofs.Padding.{product-read, product-zero, difference-zero}
 
 module _ (F : Meaning) (L : Laws F) where

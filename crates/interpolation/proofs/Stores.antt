@@ -1,16 +1,15 @@
 -- Messages in the buffer.
 use mathlib.Core.Path.{_≡_, refl, sym, _∙_, ap, ap₂, subst}
 use mathlib.Core.List.{List, [], _∷_, _++_}
-use mathlib.Core.Bool.{Bool, true, false, cond}
+use mathlib.Core.Bool.{Bool, true, false}
 use Prim.Native.Nat.{ℕ, zero, suc, _+_, _*_, _-_, _<_, _≤_}
 use native.Mathlib.Omega.{arith}
 use native.Mathlib.Nat.{mul-add, add-mul}
-use lib.ListN.{getD, length, replicate, take, drop}
+use lib.ListN.{length, replicate, take, drop}
 use lib.Dec.{leb}
 use borrow.Rule.Slice.PartMut.{putMid}
-use Rattle.std.proofs.shelf.Lists.{append-assoc, append-nil, length-append, length-push, length-replicate, length-take-le, length-drop, take-at, drop-at, drop-replicate, drop-drop}
+use Rattle.std.proofs.shelf.Lists.{append-assoc, append-nil, length-append, length-push, length-replicate, length-take-le, length-drop, take-at, drop-at, drop-replicate}
 use Rattle.std.proofs.shelf.Tests.{true≢false, le-leb, lt-leb, cond-true, cond-false}
-use Rattle.std.specs.declared.option.Option.{Option}
 use Rattle.std.specs.declared.option.Option.the-variants.{Some, None}
 use Rattle.interpolation.specs.declared.walk.Tally.{Tally}
 use Rattle.code.specs.Messages.{each}

@@ -1,13 +1,12 @@
 -- The cells of a curve that are worked on: those of weighted degree D at most. The others of a live curve are zero.
 use mathlib.Core.Path.{_≡_}
 use mathlib.Core.List.{List}
-use Prim.Native.Nat.{ℕ, zero, suc, _+_, _*_, _-_, _<_, _≤_}
-use lib.ListN.{length}
+use Prim.Native.Nat.{ℕ, _+_, _*_, _-_, _<_, _≤_}
 use Rattle.algebra.specs.Field.{Meaning, codes}
 use Rattle.algebra.specs.Curve.{dot}
 use Rattle.algebra.specs.Interpolation.{up}
 use Rattle.algebra.specs.CodeRecovery.{at}
-use Rattle.interpolation.specs.Size.{columns, rows, cells}
+use Rattle.interpolation.specs.Size.{columns, rows}
 
 -- How many cells of row j have weighted degree D at most.
 abbrev pub width : (v D j : ℕ) → ℕ

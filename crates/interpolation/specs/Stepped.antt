@@ -3,12 +3,12 @@ use mathlib.Core.Path.{_≡_}
 use mathlib.Core.Logic.{_≢_, _⊎_}
 use mathlib.Core.List.{List, []}
 use mathlib.Core.Bool.{cond}
-use Prim.Native.Nat.{ℕ, zero, suc, _+_, _*_, _-_, _<_, _≤_}
+use Prim.Native.Nat.{ℕ, suc, _+_, _*_, _<_, _≤_}
 use lib.ListN.{length, getD, replicate}
 use lib.Dec.{eqb}
 use Rattle.algebra.specs.Field.{Meaning, codes}
 use Rattle.algebra.specs.Curve.{Table, Degree-below, discrepancy}
-use Rattle.algebra.specs.Interpolation.{Step, Pairs-done, Columns-done, Places-done, Fitted}
+use Rattle.algebra.specs.Interpolation.{Step, Pairs-done, Columns-done, Places-done}
 use Rattle.algebra.specs.CodeRecovery.{at, table}
 use Rattle.interpolation.specs.declared.led.LedCurve.{LedCurve}
 use Rattle.interpolation.specs.Size.{columns, rows, cells}

@@ -1,15 +1,15 @@
 -- Where the walk stands, and what it leaves in the buffer.
 use mathlib.Core.Path.{_≡_}
-use mathlib.Core.Bool.{Bool, true, false}
-use mathlib.Core.List.{List, [], _∷_, _++_, map}
-use Prim.Native.Nat.{ℕ, _+_, _*_, _-_, _<_, _≤_}
+use mathlib.Core.Bool.{true, false}
+use mathlib.Core.List.{List, [], _++_, map}
+use Prim.Native.Nat.{ℕ, _*_, _-_, _<_, _≤_}
 use lib.ListN.{length, getD, replicate}
 use Rattle.std.specs.shelf.Lists.{kept-by}
 use Rattle.algebra.specs.Field.{Meaning, codes}
 use Rattle.algebra.specs.Curve.{Lies}
 use Rattle.algebra.specs.CodeRecovery.{table}
 use Rattle.code.specs.Messages.{isRow, messages, each}
-use Rattle.interpolation.specs.Size.{columns, rows}
+use Rattle.interpolation.specs.Size.{columns}
 use Rattle.interpolation.specs.Steps.{Inside, Light}
 use Rattle.interpolation.specs.Recovered.{passes}
 use Rattle.interpolation.specs.declared.curve.Curve.{Curve}

@@ -1,14 +1,14 @@
 // Interpolation by Koetter's method: a table of curves, one for each leading power of y, that meets one condition after another.
 ghost use mathlib.Core.Path.{_≡_};
 ghost use mathlib.Core.Logic.{_≢_};
-ghost use Prim.Native.Nat.{ℕ, suc, _+_, _*_, _-_, _/_, _<_, _≤_};
+ghost use Prim.Native.Nat.{ℕ, _+_, _*_, _/_, _<_, _≤_};
 ghost use lib.ListN.{length, set};
 ghost use Rattle.algebra.specs.Field.{codes};
 ghost use Rattle.algebra.specs.Interpolation.{monomials, Fitted};
 ghost use Rattle.algebra.specs.CodeRecovery.{at, table as curve-table};
 ghost use Rattle.interpolation.specs.Size.{columns, rows, cells as all};
 ghost use Rattle.interpolation.specs.Weighed.{Weighed};
-ghost use Rattle.interpolation.specs.Stepped.{led, key-of, Valued, Chosen, Taken, Applied, Bounded, Stepped, Pairs-met, Columns-met, Places-met, Fresh};
+ghost use Rattle.interpolation.specs.Stepped.{led, key-of, Valued, Chosen, Applied, Bounded, Stepped, Pairs-met, Columns-met, Fresh};
 use crate::curve::CELLS;
 use crate::curve::COLUMNS;
 use crate::curve::Curve;
@@ -46,6 +46,7 @@ fn discrepancy_of_other(ds: &[u8; ROWS], p: usize, j: usize) -> u8
     if j == p { 0 } else { ds[j] }
 }
 
+// Sets one coefficient to one.
 fn put_one(led: &mut LedCurve, place: usize)
     requires { ⌜ place < all ⌝ }
     ensures cells { λ _. ⌜ now (led .exit) .curve .cells ≡ set (now (led .entry) .curve .cells) place 1 ⌝ }

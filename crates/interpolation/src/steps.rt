@@ -173,7 +173,11 @@ pub(crate) fn lower(curve: &mut Curve, region: Region) -> Foot
     let m = divide(curve, region);
     let coefficients = bottom_of(curve, region.height);
     let used = used_of(&coefficients, region.height);
-    Foot { coefficients, used, width: narrowed(region.width, m) }
+    Foot {
+        coefficients,
+        used,
+        width: narrowed(region.width, m),
+    }
 }
 
 // Whether the polynomial with these coefficients is zero at the point.
@@ -268,7 +272,11 @@ fn raise_rows(curve: &mut Curve, region: Region)
 pub(crate) fn lightened(region: Region) -> Region
     ensures { λ r. ⌜ r ≡ lighter region ⌝ }
 {
-    Region { width: region.width, weight: region.weight.saturating_sub(1), height: region.height }
+    Region {
+        width: region.width,
+        weight: region.weight.saturating_sub(1),
+        height: region.height,
+    }
 }
 
 // Puts x y + root for y.

@@ -125,7 +125,14 @@ fn lower_at(curves: &mut [Curve; DEPTHS], depth: usize, region: Region) -> Foot
 }
 
 // Writes the curve after a root, one depth further down. After the last coefficient there is none.
-fn step<F: Field>(field: &F, curves: &mut [Curve; DEPTHS], depth: usize, k: usize, region: Region, root: u8)
+fn step<F: Field>(
+    field: &F,
+    curves: &mut [Curve; DEPTHS],
+    depth: usize,
+    k: usize,
+    region: Region,
+    root: u8,
+)
     requires small { ⌜ k ≤ depths ⌝ }
     requires deep { ⌜ depth < k ⌝ }
     requires inside { ⌜ Inside region ⌝ }
@@ -141,7 +148,18 @@ fn step<F: Field>(field: &F, curves: &mut [Curve; DEPTHS], depth: usize, k: usiz
 }
 
 // Goes on from the first `depth` letters of the prefix, whose curve stands at that depth: what is listed and begins with them goes to the buffer.
-fn descend<F: Field>(field: &F, search: Search, region: Region, xs: &[u8], ys: &[u8], depth: usize, curves: &mut [Curve; DEPTHS], prefix: &mut [u8; DEPTHS], buf: &mut [u8], tally: &mut Tally)
+fn descend<F: Field>(
+    field: &F,
+    search: Search,
+    region: Region,
+    xs: &[u8],
+    ys: &[u8],
+    depth: usize,
+    curves: &mut [Curve; DEPTHS],
+    prefix: &mut [u8; DEPTHS],
+    buf: &mut [u8],
+    tally: &mut Tally,
+)
     requires descent { ⌜ Descent (means (now field)) search region (now xs) (now ys) depth (take depth (now prefix)) (cells-at (now curves) depth) ⌝ }
     requires room { ⌜ Room (search .k) (length (now buf)) (now tally .count) ⌝ }
     ensures room { λ _. ⌜ Room (search .k) (length (now (buf .exit))) (now (tally .exit) .count) ⌝ }
@@ -155,13 +173,28 @@ fn descend<F: Field>(field: &F, search: Search, region: Region, xs: &[u8], ys: &
         return;
     }
     let foot = lower_at(curves, depth, region);
-    let low = Region { width: foot.width, weight: region.weight, height: region.height };
+    let low = Region {
+        width: foot.width,
+        weight: region.weight,
+        height: region.height,
+    };
     let next = lightened(low);
     for root in 0..field.size() {
         if is_root(field, &foot.coefficients[..foot.used], root as u8) {
             prefix[depth] = root as u8;
             step(field, curves, depth, search.k, low, root as u8);
-            descend(field, search, next, xs, ys, depth + 1, curves, prefix, buf, tally);
+            descend(
+                field,
+                search,
+                next,
+                xs,
+                ys,
+                depth + 1,
+                curves,
+                prefix,
+                buf,
+                tally,
+            );
         }
     }
 }

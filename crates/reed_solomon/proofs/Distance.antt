@@ -51,7 +51,7 @@ unfolding span
 span-apart a zero = tt
 span-apart a (suc i) = (span-above a (suc a) i (omega arith), span-apart (suc a) i)
 
-span-below : (q a i : ℕ) → a + i ≤ q → Each (λ y. y < q) (span a i)
+pub span-below : (q a i : ℕ) → a + i ≤ q → Each (λ y. y < q) (span a i)
 unfolding span
 span-below q a zero h = tt
 span-below q a (suc i) h = (omega arith, span-below q (suc a) i (omega arith))

@@ -4,3 +4,5 @@ pub mod Law
 pub mod Letters
 pub mod Pairing
 pub mod Few
+pub mod Feeding
+pub mod Recovering

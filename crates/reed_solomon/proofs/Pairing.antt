@@ -35,7 +35,7 @@ pairs-count (x ∷ points) (S ∷ s) e =
     ∙ sym (sumBy-cons size S s)
 
 -- what holds of every point holds of every pair's
-of-points : (P : ℕ → Type 0) (points : List ℕ) (s : Sheet) → Each P points → Each (λ p. P (p .0)) (pairs-of points s)
+pub of-points : (P : ℕ → Type 0) (points : List ℕ) (s : Sheet) → Each P points → Each (λ p. P (p .0)) (pairs-of points s)
 unfolding pairs-of
 of-points P [] s h = tt
 of-points P (x ∷ points) [] h = tt

@@ -3,6 +3,8 @@ use mathlib.Core.Bool.{cond}
 use mathlib.Core.List.{List, [], _∷_, _++_, map}
 use Prim.Native.Nat.{ℕ, zero, suc}
 use Rattle.sheet.specs.Letters.{Letters, Sheet}
+use Rattle.algebra.specs.Field.{Meaning as Field}
+use Rattle.interpolation.specs.Fitting.{taken, kept}
 
 -- the letters below n that stand, in rising order
 unfoldable pub letters : Letters → ℕ → List ℕ
@@ -25,3 +27,13 @@ points-of ps = map (λ (p : ℕ × ℕ). p .0) ps
 
 abbrev pub letters-of : List (ℕ × ℕ) → List ℕ
 letters-of ps = map (λ (p : ℕ × ℕ). p .1) ps
+
+-- what a fitting holds, its points and its values, after it was offered a pair
+abbrev pub offered : Field → (limit : ℕ) → List ℕ × List ℕ → ℕ × ℕ → List ℕ × List ℕ
+offered F limit held p =
+    (kept (taken F limit (held .0) (held .1) (p .0) (p .1)) (held .0) (p .0), kept (taken F limit (held .0) (held .1) (p .0) (p .1)) (held .1) (p .1))
+
+-- and after it was offered many
+abbrev pub fed : Field → (limit : ℕ) → List ℕ × List ℕ → List (ℕ × ℕ) → List ℕ × List ℕ
+fed F limit held [] = held
+fed F limit held (p ∷ ps) = fed F limit (offered F limit held p) ps

@@ -2,3 +2,4 @@ pub mod Least
 pub mod ReedSolomon
 pub mod Gathered
 pub mod Few
+pub mod Values

@@ -15,10 +15,10 @@ use lib.Arith.{digits-div, digits-mod, lt-one}
 use lib.Pow.{mod-pow-add}
 use lib.ListN.{length, getD, take}
 use Rattle.std.proofs.shelf.Bits.{pow-pos, mod-below, shr-below}
-use Rattle.sheet.specs.Letters.{Letters, tally, size}
+use Rattle.sheet.specs.Letters.{Letters, Sheet, tally, size, weight}
 use Rattle.std.specs.shelf.Lists.{sumBy}
 use Rattle.std.proofs.shelf.Lists.{take-more, map-append}
-use Rattle.std.proofs.shelf.Sums.{sumBy-push}
+use Rattle.std.proofs.shelf.Sums.{sumBy-push, sumBy-cons}
 use Rattle.sheet.specs.Standing.{marked, stands, total}
 use Rattle.sheet.specs.declared.marks.Marks.{Marks}
 
@@ -89,3 +89,8 @@ total-more ms i d h =
     ap total (take-more ms i d h)
     ∙ ap (sumBy size) (map-append stands (take i ms) (getD ms i d ∷ []))
     ∙ sumBy-push size (map stands (take i ms)) (stands (getD ms i d))
+
+-- no place has more than 256 letters
+pub weight-le : (s : Sheet) → weight s ≤ 256 * length s
+weight-le [] = omega arith
+weight-le (S ∷ s) = let h = weight-le s in let z = size-le S in let e = sumBy-cons size S s in omega arith

@@ -1,14 +1,13 @@
-use mathlib.Core.Path.{_≡_, sym, ap, ap₂, _∙_}
+use mathlib.Core.Path.{_≡_, ap, ap₂, _∙_}
 use Prim.Native.Nat.{ℕ, suc, zero, _<_}
 use mathlib.Core.List.{List}
 use native.Mathlib.Omega.{arith}
-use lib.ListN.{length, length-take, length-drop}
-use Rattle.algebra.specs.Field.{Meaning, codes}
+use Rattle.algebra.specs.Field.{Meaning}
 use Rattle.algebra.specs.Interpolation.{up}
 use Rattle.algebra.specs.CodeRecovery.{at}
-use Rattle.interpolation.specs.Size.{columns, rows}
-use Rattle.interpolation.specs.Region.{cell, lifted, lifted-cell, Changed}
-use Rattle.interpolation.proofs.Entries.{part, part-cell, part-length, still, changed-none, changed-more, changed-all}
+use Rattle.interpolation.specs.Size.{rows}
+use Rattle.interpolation.specs.Region.{cell, lifted, lifted-cell}
+use Rattle.interpolation.proofs.Entries.{part, part-cell, part-length, still, changed-more}
 use Rattle.interpolation.proofs.led.lift_cells.Needs as need
 
 -- The row as it is lifted is the curve's.

@@ -1,4 +1,3 @@
-use mathlib.Core.Path.{_≡_}
 use Rattle.interpolation.specs.Region.{Changed, lifted-cell}
 use Rattle.interpolation.proofs.led.lift_cells.Given as given
 

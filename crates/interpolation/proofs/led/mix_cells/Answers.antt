@@ -1,13 +1,11 @@
-use mathlib.Core.Path.{_≡_, sym, ap, ap₂, _∙_}
-use Prim.Native.Nat.{ℕ, suc, zero, _<_}
+use mathlib.Core.Path.{_≡_, ap₂, _∙_}
+use Prim.Native.Nat.{ℕ, _<_}
 use mathlib.Core.List.{List}
 use native.Mathlib.Omega.{arith}
-use lib.ListN.{length, length-take, length-drop}
 use Rattle.algebra.specs.Field.{Meaning}
-use Rattle.algebra.specs.CodeRecovery.{at}
-use Rattle.interpolation.specs.Size.{columns, rows}
-use Rattle.interpolation.specs.Region.{cell, mixed, mixed-cell, Changed}
-use Rattle.interpolation.proofs.Entries.{part, part-cell, part-length, still, changed-none, changed-more, changed-all}
+use Rattle.interpolation.specs.Size.{rows}
+use Rattle.interpolation.specs.Region.{cell, mixed, mixed-cell}
+use Rattle.interpolation.proofs.Entries.{part-cell, part-length, still, changed-more}
 use Rattle.interpolation.proofs.led.mix_cells.Needs as need
 
 -- The row as it is mixed is the curve's.

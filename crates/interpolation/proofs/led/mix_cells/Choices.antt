@@ -1,4 +1,3 @@
-use mathlib.Core.Path.{_≡_}
 use Rattle.interpolation.specs.Region.{Changed, mixed-cell}
 use Rattle.interpolation.proofs.led.mix_cells.Given as given
 

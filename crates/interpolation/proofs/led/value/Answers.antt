@@ -1,5 +1,5 @@
-use mathlib.Core.Path.{_≡_, sym, ap, ap₂, _∙_}
-use Prim.Native.Nat.{ℕ, suc, zero, _*_, _<_, _≤_}
+use mathlib.Core.Path.{_≡_, ap, ap₂, _∙_}
+use Prim.Native.Nat.{ℕ, _<_}
 use mathlib.Core.List.{List}
 use native.Mathlib.Omega.{arith}
 use lib.ListN.{length}
@@ -7,7 +7,7 @@ use Rattle.algebra.specs.Field.{Meaning, codes}
 use Rattle.algebra.specs.Curve.{dot}
 use Rattle.algebra.specs.CodeRecovery.{at}
 use Rattle.algebra.proofs.Discrepancies.{dot-ext}
-use Rattle.interpolation.specs.Size.{columns, rows}
+use Rattle.interpolation.specs.Size.{rows}
 use Rattle.interpolation.specs.Region.{width, cell, row-value}
 use Rattle.interpolation.proofs.Rising.{dot-none, dot-more}
 use Rattle.interpolation.proofs.Entries.{part, part-cell, part-length}

@@ -1,4 +1,4 @@
-use mathlib.Core.Path.{_≡_, sym, ap, ap₂, _∙_}
+use mathlib.Core.Path.{ap₂, _∙_}
 use Rattle.algebra.specs.Field.{codes}
 use Rattle.algebra.specs.CodeRecovery.{at}
 use Rattle.interpolation.proofs.Rising.{dot-none, dot-more}

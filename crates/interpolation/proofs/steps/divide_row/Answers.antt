@@ -1,6 +1,6 @@
-use mathlib.Core.Path.{_≡_, _∙_}
+use mathlib.Core.Path.{_∙_}
 use native.Mathlib.Omega.{arith}
-use lib.ListN.{length, length-set}
+use lib.ListN.{length-set}
 use Rattle.interpolation.specs.Steps.{lowered-at}
 use Rattle.interpolation.proofs.Cells.{row-up, lowered-same}
 use Rattle.interpolation.proofs.steps.divide_row.Needs as need

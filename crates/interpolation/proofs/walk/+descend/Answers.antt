@@ -1,14 +1,13 @@
 use borrow.Author.Needs.{needs}
 use mathlib.Core.Path.{_≡_, refl, sym, ap, _∙_, subst, subst₂}
-use mathlib.Core.List.{List, [], _∷_, _++_}
-use Prim.Native.Nat.{ℕ, suc, _+_, _-_, _*_, _<_, _≤_}
+use Prim.Native.Nat.{_+_, _-_, _<_, _≤_}
 use native.Mathlib.Omega.{arith}
 use lib.ListN.{length, take, set}
 use Rattle.std.proofs.shelf.Lists.{length-take-le}
 use Rattle.interpolation.specs.declared.walk.Tally.{Tally}
 use Rattle.interpolation.specs.Steps.{Light, Moved}
 use Rattle.interpolation.specs.Walk.{Descent, Room, Adds, cells-at, chosen}
-use Rattle.interpolation.proofs.Orders.{upto, upto-none, upto-all, chosen-more}
+use Rattle.interpolation.proofs.Orders.{upto, upto-none, upto-all}
 use Rattle.interpolation.proofs.Divisions.{narrower}
 use Rattle.interpolation.proofs.Descents.{leaf-held, low-light, low-inside, low-weight, adds-none, step-descent, step-none, take-next, held-root, held-not, front-kept}
 use Rattle.interpolation.proofs.walk.+descend.Needs as need

@@ -1,5 +1,5 @@
 use mathlib.Core.Path.{_≡_}
-use Prim.Native.Nat.{ℕ, _≤_}
+use Prim.Native.Nat.{_≤_}
 use Rattle.algebra.specs.CodeRecovery.{passed}
 use Rattle.interpolation.proofs.walk.score_of.Given as given
 

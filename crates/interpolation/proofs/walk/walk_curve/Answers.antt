@@ -1,11 +1,8 @@
 use borrow.Author.Needs.{needs}
-use mathlib.Core.Path.{_≡_, refl, sym, ap, _∙_, subst}
-use mathlib.Core.List.{List, []}
-use Prim.Native.Nat.{ℕ, _-_, _≤_}
+use mathlib.Core.Path.{_≡_, ap, _∙_}
 use native.Mathlib.Omega.{arith}
 use lib.ListN.{length, replicate}
 use Rattle.interpolation.specs.Recovered.{recovered}
-use Rattle.interpolation.specs.Walk.{Room}
 use Rattle.interpolation.proofs.Stores.{says-some, says-none, lays-some, lays-none}
 use Rattle.interpolation.proofs.Starts.{start, whole}
 use Rattle.interpolation.proofs.walk.walk_curve.Needs as need

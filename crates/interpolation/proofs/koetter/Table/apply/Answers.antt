@@ -1,7 +1,7 @@
-use mathlib.Core.Path.{_≡_, refl, sym, ap, _∙_, subst, subst₂}
+use mathlib.Core.Path.{_≡_, sym, _∙_, subst, subst₂}
 use mathlib.Core.Logic.{_≢_}
 use mathlib.Core.List.{List}
-use Prim.Native.Nat.{ℕ, _+_, _*_, _<_, _≤_}
+use Prim.Native.Nat.{ℕ, _<_}
 use native.Mathlib.Omega.{arith}
 use native.Mathlib.Decide.{ℕ-discrete}
 use lib.ListN.{length, set, length-set}
@@ -9,7 +9,6 @@ use lib.Seq.{getD-set-same, getD-set-other}
 use borrow.Author.Count.{below-more}
 use Rattle.algebra.specs.CodeRecovery.{at}
 use Rattle.interpolation.specs.declared.led.LedCurve.{LedCurve}
-use Rattle.interpolation.specs.Size.{columns, rows}
 use Rattle.interpolation.specs.Stepped.{blank, led, Taken}
 use Rattle.interpolation.proofs.koetter.Table.apply.Needs as need
 

@@ -1,5 +1,5 @@
 use mathlib.Core.Path.{_≡_}
-use Prim.Native.Nat.{ℕ, _<_, _≤_}
+use Prim.Native.Nat.{_<_}
 use Rattle.interpolation.specs.Size.{rows}
 use Rattle.interpolation.specs.Stepped.{Chosen, key-of}
 use Rattle.interpolation.proofs.koetter.Table.choose.Given as given

@@ -1,4 +1,4 @@
-use Prim.Native.Nat.{ℕ, _+_, _*_, _<_, _≤_}
+use Prim.Native.Nat.{ℕ, _+_, _*_, _<_}
 use Rattle.interpolation.specs.Stepped.{led}
 use Rattle.interpolation.proofs.koetter.Table.first_live.Given as given
 

@@ -1,4 +1,4 @@
-use mathlib.Core.Path.{_≡_, refl}
+use mathlib.Core.Path.{refl}
 use Rattle.interpolation.proofs.Onward.{pairs-none}
 use Rattle.interpolation.proofs.koetter.Table.meet.Needs as need
 

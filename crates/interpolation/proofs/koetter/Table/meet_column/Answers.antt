@@ -1,9 +1,9 @@
-use mathlib.Core.Path.{_≡_, refl, sym, ap, _∙_, subst, subst₂}
-use Prim.Native.Nat.{ℕ, _+_, _-_, _<_, _≤_}
+use mathlib.Core.Path.{_≡_, refl, _∙_, subst, subst₂}
+use Prim.Native.Nat.{ℕ, _+_, _-_}
 use native.Mathlib.Omega.{arith}
 use native.Mathlib.Numerals.{add-one}
 use Rattle.algebra.specs.CodeRecovery.{at}
-use Rattle.interpolation.specs.Size.{columns, rows}
+use Rattle.interpolation.specs.Size.{rows}
 use Rattle.interpolation.specs.Weighed.{Weighed}
 use Rattle.interpolation.specs.Stepped.{Bounded, Stepped, Places-met}
 use Rattle.interpolation.proofs.Onward.{places-none, bounded, places-more, columns-more}

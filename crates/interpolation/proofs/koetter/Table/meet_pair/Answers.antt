@@ -1,10 +1,7 @@
-use mathlib.Core.Path.{_≡_, refl, sym, ap, _∙_, subst, subst₂}
-use Prim.Native.Nat.{ℕ, _+_, _-_, _<_, _≤_}
+use mathlib.Core.Path.{_≡_, refl, _∙_, subst, subst₂}
+use Prim.Native.Nat.{_+_}
 use native.Mathlib.Omega.{arith}
 use native.Mathlib.Numerals.{add-one}
-use Rattle.algebra.specs.CodeRecovery.{at}
-use Rattle.interpolation.specs.Size.{columns, rows}
-use Rattle.interpolation.specs.Weighed.{Weighed}
 use Rattle.interpolation.specs.Stepped.{Columns-met}
 use Rattle.interpolation.proofs.Onward.{columns-none, pairs-more}
 use Rattle.interpolation.proofs.koetter.Table.meet_pair.Needs as need

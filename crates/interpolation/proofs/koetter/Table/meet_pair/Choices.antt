@@ -1,5 +1,4 @@
 use mathlib.Core.Path.{_≡_}
-use Prim.Native.Nat.{ℕ, _+_}
 use lib.ListN.{length}
 use Rattle.algebra.specs.CodeRecovery.{at}
 use Rattle.interpolation.specs.Size.{rows}

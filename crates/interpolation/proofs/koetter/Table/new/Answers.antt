@@ -1,7 +1,7 @@
-use mathlib.Core.Path.{_≡_, refl}
+use mathlib.Core.Path.{refl}
 use lib.ListN.{replicate}
 use Rattle.interpolation.specs.Size.{cells}
-use Rattle.interpolation.specs.Stepped.{Start, zeros}
+use Rattle.interpolation.specs.Stepped.{zeros}
 use Rattle.interpolation.proofs.Starting.{start-none, start-more, start-all}
 use Rattle.interpolation.proofs.koetter.Table.new.Needs as need
 
