@@ -1,0 +1,4 @@
+pub mod Values
+pub mod Book
+pub mod History
+pub mod Promise
