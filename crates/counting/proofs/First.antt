@@ -61,6 +61,6 @@ smallest-passes test b (suc left) t e =
     ⊎-elim
     (λ y. let here = cond-true (test b) (Some b) (smallest test (suc b) left) y in let q : b ≡ t = cc in (ap test (sym q) ∙ y, omega arith, omega arith))
     (λ n.
-        let r = smallest-passes test (suc b) left t (sym (cond-false (test b) (Some b) (smallest test (suc b) left) n) ∙ e) in
-        (r .0, omega (arith, r .1), omega (arith, r .2)))
+    let r = smallest-passes test (suc b) left t (sym (cond-false (test b) (Some b) (smallest test (suc b) left) n) ∙ e) in
+    (r .0, omega (arith, r .1), omega (arith, r .2)))
     (cases-bool (test b))

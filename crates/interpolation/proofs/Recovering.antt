@@ -44,18 +44,20 @@ module _ (F : Meaning) (xs ys : List ℕ) (x y : ℕ) where
             ⊎-elim
             (λ l. P .apart i j o l (sym (left xs x i (omega arith)) ∙ ex ∙ left xs x j l) (sym (left ys y i (omega arith)) ∙ ey ∙ left ys y j (omega arith)))
             (λ l.
-                let e : j ≡ length xs = omega arith in
-                true≢false (sym (among-here xs ys i x y (omega arith) s
-                  (sym (left xs x i (omega arith)) ∙ ex ∙ ap (λ z. getD (xs ++ x ∷ []) z 0) e ∙ last xs x)
-                  (sym (left ys y i (omega arith)) ∙ ey ∙ ap (λ z. getD (ys ++ y ∷ []) z 0) (e ∙ s) ∙ last ys y)) ∙ new))
+            let e : j ≡ length xs = omega arith in
+            true≢false (sym (among-here xs ys i x y (omega arith) s
+            (sym (left xs x i (omega arith)) ∙ ex ∙ ap (λ z. getD (xs ++ x ∷ []) z 0) e ∙ last xs x)
+            (sym (left ys y i (omega arith)) ∙ ey ∙ ap (λ z. getD (ys ++ y ∷ []) z 0) (e ∙ s) ∙ last ys y)) ∙ new))
             (cases-lt j (length xs));
       }
-      where
+    where
       left : (l : List ℕ) (z i : ℕ) → i < length l → getD (l ++ z ∷ []) i 0 ≡ getD l i 0
       left l z i h = getD-append-left l (z ∷ []) 0 i h
+
       last : (l : List ℕ) (z : ℕ) → getD (l ++ z ∷ []) (length l) 0 ≡ z
       last [] z = refl
       last (a ∷ l) z = last l z
+
       at-each : (Q : ℕ → Type 0) (l : List ℕ) (z : ℕ) → ((i : ℕ) → i < length l → Q (getD l i 0)) → Q z → (i : ℕ) → i ≤ length l → Q (getD (l ++ z ∷ []) i 0)
       at-each Q l z h q i k =
           ⊎-elim (λ o. subst Q (sym (left l z i o)) (h i o))
@@ -78,9 +80,9 @@ module _ (F : Meaning) (L : Laws F) (k t r : ℕ) (xs ys cells : List ℕ) (some
   pub covers : (f : List ℕ) → isRow k (F .size) f ≡ true → t ≤ score F xs ys f → Lies (codes F) columns rows (table F columns cells) f
   covers f row h =
       code-vanishing F L r t columns rows (k - 1) (table F columns cells) f xs ys
-        (let e = row-length k (F .size) f row in let z : length f ≡ suc (k - 1) = omega arith in z)
-        (subst (λ m. Degree-below (codes F) columns rows (k - 1) m (table F columns cells)) (let z : suc (r * t - 1) ≡ r * t = omega arith in z) (fit .within))
-        pairs (fit .through) h
+      (let e = row-length k (F .size) f row in let z : length f ≡ suc (k - 1) = omega arith in z)
+      (subst (λ m. Degree-below (codes F) columns rows (k - 1) m (table F columns cells)) (let z : suc (r * t - 1) ≡ r * t = omega arith in z) (fit .within))
+      pairs (fit .through) h
 
   pub light : Degree-below (codes F) columns rows (k - 1) (r * t - 1 + 1) (table F columns cells)
   light = subst (λ m. Degree-below (codes F) columns rows (k - 1) m (table F columns cells)) (let z : suc (r * t - 1) ≡ r * t - 1 + 1 = omega arith in z) (fit .within)
@@ -91,7 +93,7 @@ positive (suc r) t a b = let e = suc-mul r t in omega arith
 
 -- one pair more below the limit
 pub more-gathered : (F : Meaning) (limit size : ℕ) (xs ys : List ℕ) (x y : ℕ) (xs′ ys′ : List ℕ) → Gathered F limit xs ys → size ≡ F .size
-  → (ltb x size && ltb x 64) ≡ true → y < size → among xs ys x y ≡ false → length xs < limit → xs′ ≡ xs ++ x ∷ [] → ys′ ≡ ys ++ y ∷ [] → Gathered F limit xs′ ys′
+    → (ltb x size && ltb x 64) ≡ true → y < size → among xs ys x y ≡ false → length xs < limit → xs′ ≡ xs ++ x ∷ [] → ys′ ≡ ys ++ y ∷ [] → Gathered F limit xs′ ys′
 more-gathered F limit size xs ys x y xs′ ys′ G es px hy new h ex ey =
     let hx = ltb-true x size (and-parts (ltb x size) (ltb x 64) px .0) in
     let n = length-push xs x in
@@ -103,7 +105,7 @@ more-gathered F limit size xs ys x y xs′ ys′ G es px hy new h ex ey =
 
 -- the same curve, said of equal pairs and an equal degree
 pub fitted-same : (F : Meaning) (v d d′ r : ℕ) (xs xs′ ys ys′ cells : List ℕ) → d ≡ d′ → xs ≡ xs′ → ys ≡ ys′
-  → Fitted (codes F) columns rows v d r (length xs) (at xs) (at ys) (table F columns cells) → Fitted (codes F) columns rows v d′ r (length xs′) (at xs′) (at ys′) (table F columns cells)
+    → Fitted (codes F) columns rows v d r (length xs) (at xs) (at ys) (table F columns cells) → Fitted (codes F) columns rows v d′ r (length xs′) (at xs′) (at ys′) (table F columns cells)
 fitted-same F v d d′ r xs xs′ ys ys′ cells ed ex ey h =
     subst (λ z. Fitted (codes F) columns rows v z r (length xs′) (at xs′) (at ys′) (table F columns cells)) ed
     (subst₂ (λ x y. Fitted (codes F) columns rows v d r (length x) (at x) (at y) (table F columns cells)) ex ey h)

@@ -91,9 +91,9 @@ module _ (F : Meaning) (L : Laws F) where
             moved = s .lead;
             stay = λ j h ne. s .others j h ne .lead;
             lifted = λ room.
-              let e = s .lead in
-              lifted-same v (led cs′ p .lead + v * p) (led cs p .curve .cells) (led cs′ p .curve .cells) a (within p lt live (led cs′ p .lead + v * p) (omega arith)) (s .lifted (omega arith));
-          others = λ j h ne lv. elim (ℕ-discrete (at ds j) 0) [
+                let e = s .lead in
+                lifted-same v (led cs′ p .lead + v * p) (led cs p .curve .cells) (led cs′ p .curve .cells) a (within p lt live (led cs′ p .lead + v * p) (omega arith)) (s .lifted (omega arith));
+            others = λ j h ne lv. elim (ℕ-discrete (at ds j) 0) [
               | yes z ↦ inl (sym (is j h lv) ∙ z, λ i k _ _. ap (λ (x : LedCurve). table F columns (x .curve .cells) i k) (s .others j h ne .idle z))
               | no z ↦ inr (
                 (λ e. z (is j h lv ∙ e)),

@@ -54,8 +54,8 @@ abbrev pub taken : Meaning → (limit : ℕ) → List ℕ → List ℕ → (x y 
 taken F limit xs ys x y =
     cond (ltb x (F .size) && ltb x 64)
     (cond (ltb y (F .size))
-      (cond (among xs ys x y) (Err Twice) (cond (ltb (length xs) limit) (Ok (length xs + 1)) (Err Full)))
-      (Err Letter))
+    (cond (among xs ys x y) (Err Twice) (cond (ltb (length xs) limit) (Ok (length xs + 1)) (Err Full)))
+    (Err Letter))
     (Err Place)
 
 -- what is held after an answer

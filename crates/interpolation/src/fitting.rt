@@ -50,7 +50,11 @@ impl<'a, F: Field> Gathering<'a, F> {
         ensures values { λ g. ⌜ values-of (g .pairs) ≡ [] ⌝ }
         ensures made { λ g. ⌜ Gathered (F·Field .means (now (g .field))) (g .plan .limit) (points-of (g .pairs)) (values-of (g .pairs)) ⌝ }
     {
-        Gathering { field, plan, pairs: Pairs::new() }
+        Gathering {
+            field,
+            plan,
+            pairs: Pairs::new(),
+        }
     }
 
     // Takes one pair, and answers how many are held.
@@ -90,8 +94,20 @@ impl<'a, F: Field> Gathering<'a, F> {
         ensures made { λ c. ⌜ Around (F·Field .means (now (c .field))) (c .plan .k) (c .plan .t) (c .plan .r) (points-of (c .pairs)) (values-of (c .pairs)) (c .curve .cells) ⌝ }
     {
         let Gathering { field, plan, pairs } = self;
-        let curve = interpolate(field, plan.k - 1, plan.degree(), plan.r, pairs.points(), pairs.values());
-        Closed { field, plan, pairs, curve }
+        let curve = interpolate(
+            field,
+            plan.k - 1,
+            plan.degree(),
+            plan.r,
+            pairs.points(),
+            pairs.values(),
+        );
+        Closed {
+            field,
+            plan,
+            pairs,
+            curve,
+        }
     }
 }
 
@@ -116,8 +132,22 @@ impl<'a, F: Field> Closed<'a, F> {
         ensures answer { λ r. ⌜ r ≡ reached (self .entry .plan .k) (length (now (buf .entry))) (recovered (F·Field .means (now (self .entry .field))) (self .entry .plan .k) (self .entry .plan .t) (points-of (self .entry .pairs)) (values-of (self .entry .pairs))) within ⌝ }
         ensures buffer { λ r. ⌜ now (buf .exit) ≡ laid (length (now (buf .entry))) (recovered (F·Field .means (now (self .entry .field))) (self .entry .plan .k) (self .entry .plan .t) (points-of (self .entry .pairs)) (values-of (self .entry .pairs))) r ⌝ }
     {
-        let Closed { field, plan, pairs, curve } = self;
-        match walk_curve(field, &curve, plan.k, plan.t, plan.degree(), pairs.points(), pairs.values(), buf) {
+        let Closed {
+            field,
+            plan,
+            pairs,
+            curve,
+        } = self;
+        match walk_curve(
+            field,
+            &curve,
+            plan.k,
+            plan.t,
+            plan.degree(),
+            pairs.points(),
+            pairs.values(),
+            buf,
+        ) {
             Some(count) => Ok(count),
             None => Err(Fault::Short),
         }

@@ -99,7 +99,11 @@ impl Table {
         ensures { λ r. ⌜ Valued (means (now (field .entry))) (now (self .entry) .weight) (now (self .entry) .degree) (now (wx .entry)) (now (wy .entry)) (led (now (self .entry) .curves) j) j r ⌝ }
     {
         let degree = self.lead_degree(j);
-        if degree <= self.degree { value(field, self.weight, degree, wx, wy, &self.curves[j].curve) } else { 0 }
+        if degree <= self.degree {
+            value(field, self.weight, degree, wx, wy, &self.curves[j].curve)
+        } else {
+            0
+        }
     }
 
     // The discrepancies of all curves.
@@ -143,7 +147,15 @@ impl Table {
         let degree = self.degree;
         let pivot = self.curves[p];
         for j in 0..ROWS {
-            mix(field, weight, j, &mut self.curves[j], ds[p], discrepancy_of_other(ds, p, j), &pivot.curve);
+            mix(
+                field,
+                weight,
+                j,
+                &mut self.curves[j],
+                ds[p],
+                discrepancy_of_other(ds, p, j),
+                &pivot.curve,
+            );
         }
         lift(field, weight, degree, p, &mut self.curves[p], a);
     }
@@ -163,7 +175,17 @@ impl Table {
     }
 
     // The conditions of order w in y at pair t, by rising order in x. The weights of order zero in x and of order w in y are given.
-    fn meet_column<F: Field>(&mut self, field: &F, r: usize, xs: &[u8], ys: &[u8], t: usize, w: usize, first: &[u8; COLUMNS], wy: &[u8; ROWS])
+    fn meet_column<F: Field>(
+        &mut self,
+        field: &F,
+        r: usize,
+        xs: &[u8],
+        ys: &[u8],
+        t: usize,
+        w: usize,
+        first: &[u8; COLUMNS],
+        wy: &[u8; ROWS],
+    )
         requires { ⌜ now self .weight < rows ⌝ ∗ ⌜ now self .degree < columns ⌝ ∗ ⌜ w < r ⌝ ∗ ⌜ t < length (now xs) ⌝ }
         requires { ⌜ Weighed (means (now field)) (at (now xs) t) 0 (now self .degree + 1) (now first) ⌝ ∗ ⌜ Weighed (means (now field)) (at (now ys) t) w rows (now wy) ⌝ }
         requires { ⌜ Columns-met (means (now field)) (now self .weight) (now self .degree) r (now xs) (now ys) t w (now self .curves) ⌝ }
@@ -226,7 +248,14 @@ impl Table {
 }
 
 // A curve, not zero, of weighted degree `degree` at most, with multiplicity r at each pair.
-pub(crate) fn interpolate<F: Field>(field: &F, weight: usize, degree: usize, r: usize, xs: &[u8], ys: &[u8]) -> Curve
+pub(crate) fn interpolate<F: Field>(
+    field: &F,
+    weight: usize,
+    degree: usize,
+    r: usize,
+    xs: &[u8],
+    ys: &[u8],
+) -> Curve
     requires { ⌜ weight < rows ⌝ ∗ ⌜ degree < columns ⌝ ∗ ⌜ length (now xs) ≤ length (now ys) ⌝ ∗ ⌜ length (now xs) * r * (r + 1) / 2 < monomials rows weight degree ⌝ }
     ensures { λ c. ⌜ Fitted (codes (means (now (field .entry)))) columns rows weight degree r (length (now (xs .entry))) (at (now (xs .entry))) (at (now (ys .entry))) (curve-table (means (now (field .entry))) columns (c .cells)) ⌝ }
 {

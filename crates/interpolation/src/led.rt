@@ -42,7 +42,14 @@ fn height(weight: usize, degree: usize) -> usize
 }
 
 // What the curve gives under the weights of a derivative: the derivative, where the coefficients that are passed over are zero.
-pub(crate) fn value<F: Field>(field: &F, weight: usize, degree: usize, wx: &[u8], wy: &[u8], curve: &Curve) -> u8
+pub(crate) fn value<F: Field>(
+    field: &F,
+    weight: usize,
+    degree: usize,
+    wx: &[u8],
+    wy: &[u8],
+    curve: &Curve,
+) -> u8
     requires { ⌜ weight < rows ⌝ ∗ ⌜ degree < columns ⌝ ∗ ⌜ degree < length (now wx) ⌝ ∗ ⌜ rows ≤ length (now wy) ⌝ }
     ensures { λ r. ⌜ ((a b u w : ℕ) → Weighed (means (now (field .entry))) a u (degree + 1) (now (wx .entry)) → Weighed (means (now (field .entry))) b w rows (now (wy .entry)) → Degree-below (codes (means (now (field .entry)))) columns rows weight (suc degree) (table (means (now (field .entry))) columns (now (curve .entry) .cells)) → r ≡ discrepancy (codes (means (now (field .entry)))) columns rows a b u w (table (means (now (field .entry))) columns (now (curve .entry) .cells))) ⌝ }
 {
@@ -50,20 +57,37 @@ pub(crate) fn value<F: Field>(field: &F, weight: usize, degree: usize, wx: &[u8]
     for j in 0..height(weight, degree) {
         let from = COLUMNS * j;
         let n = width(weight, degree, j);
-        sum = field.add(sum, field.mul(wy[j], dot(field, wx, &curve.cells[from..from + n])));
+        sum = field.add(
+            sum,
+            field.mul(wy[j], dot(field, wx, &curve.cells[from..from + n])),
+        );
     }
     sum
 }
 
 // d times a curve less e times the pivot, in its place.
-fn mix_cells<F: Field>(field: &F, weight: usize, degree: usize, d: u8, cells: &mut [u8], e: u8, pivot: &[u8])
+fn mix_cells<F: Field>(
+    field: &F,
+    weight: usize,
+    degree: usize,
+    d: u8,
+    cells: &mut [u8],
+    e: u8,
+    pivot: &[u8],
+)
     requires { ⌜ weight < rows ⌝ ∗ ⌜ degree < columns ⌝ ∗ ⌜ length (now cells) ≡ all ⌝ ∗ ⌜ length (now pivot) ≡ all ⌝ }
     ensures { λ _. ⌜ Changed weight degree rows (mixed-cell (means (now (field .entry))) d (now (cells .entry)) e (now (pivot .entry))) (now (cells .entry)) (now (cells .exit)) ⌝ }
 {
     for j in 0..height(weight, degree) {
         let from = COLUMNS * j;
         let n = width(weight, degree, j);
-        mix_row(field, d, &mut cells[from..from + n], e, &pivot[from..from + n]);
+        mix_row(
+            field,
+            d,
+            &mut cells[from..from + n],
+            e,
+            &pivot[from..from + n],
+        );
     }
 }
 
@@ -80,18 +104,41 @@ fn lift_cells<F: Field>(field: &F, weight: usize, degree: usize, a: u8, cells: &
 }
 
 // A multiple of the pivot, whose discrepancy is d, is taken off curve j, whose discrepancy is e, if it fails the condition.
-pub(crate) fn mix<F: Field>(field: &F, weight: usize, j: usize, led: &mut LedCurve, d: u8, e: u8, pivot: &Curve)
+pub(crate) fn mix<F: Field>(
+    field: &F,
+    weight: usize,
+    j: usize,
+    led: &mut LedCurve,
+    d: u8,
+    e: u8,
+    pivot: &Curve,
+)
     requires { ⌜ weight < rows ⌝ ∗ ⌜ j < rows ⌝ ∗ ⌜ (e ≢ 0 → now led .lead + weight * j < columns) ⌝ }
     ensures { λ _. ⌜ Taken (means (now (field .entry))) weight j d e (now (pivot .entry) .cells) (now (led .entry)) (now (led .exit)) ⌝ }
 {
     if e != 0 {
         let degree = led.lead as usize + weight * j;
-        mix_cells(field, weight, degree, d, &mut led.curve.cells, e, &pivot.cells);
+        mix_cells(
+            field,
+            weight,
+            degree,
+            d,
+            &mut led.curve.cells,
+            e,
+            &pivot.cells,
+        );
     }
 }
 
 // x - a times curve j: its lead goes up by one. Where it is live no more its coefficients are left alone.
-pub(crate) fn lift<F: Field>(field: &F, weight: usize, most: usize, j: usize, led: &mut LedCurve, a: u8)
+pub(crate) fn lift<F: Field>(
+    field: &F,
+    weight: usize,
+    most: usize,
+    j: usize,
+    led: &mut LedCurve,
+    a: u8,
+)
     requires { ⌜ weight < rows ⌝ ∗ ⌜ most < columns ⌝ ∗ ⌜ j < rows ⌝ ∗ ⌜ now led .lead < columns ⌝ }
     ensures lead { λ _. ⌜ now (led .exit) .lead ≡ suc (now (led .entry) .lead) ⌝ }
     ensures cells { λ _. ⌜ (now (led .exit) .lead + weight * j ≤ most → Changed weight (now (led .exit) .lead + weight * j) rows (lifted-cell (means (now (field .entry))) a (now (led .entry) .curve .cells)) (now (led .entry) .curve .cells) (now (led .exit) .curve .cells)) ⌝ }

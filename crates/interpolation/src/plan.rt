@@ -6,7 +6,9 @@ ghost use Rattle.counting.specs.Counting.{limits, suits};
 
 // The most coefficients of a polynomial, the highest agreement, and more pairs than any limit allows.
 pub const MAX_COEFFICIENTS: usize = 16;
+
 pub const MAX_AGREEMENT: usize = 64;
+
 pub const MAX_PAIRS: usize = 1024;
 
 #[derive(Clone, Copy)]

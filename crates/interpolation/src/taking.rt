@@ -49,7 +49,11 @@ impl Pairs {
         ensures points { λ r. ⌜ points-of r ≡ [] ⌝ }
         ensures values { λ r. ⌜ values-of r ≡ [] ⌝ }
     {
-        Pairs { points: [0; MAX_PAIRS], values: [0; MAX_PAIRS], held: 0 }
+        Pairs {
+            points: [0; MAX_PAIRS],
+            values: [0; MAX_PAIRS],
+            held: 0,
+        }
     }
 
     // How many pairs are held.

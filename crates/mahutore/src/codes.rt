@@ -7,7 +7,6 @@ use field::PrimeField;
 use field::PrimeFieldField;
 use generator::Generator;
 use reed_solomon::ReedSolomon;
-
 ghost use Rattle.algebra.specs.Prime.{prime};
 ghost use Rattle.algebra.specs.Binary.{binary};
 ghost use Rattle.generator.specs.Values.{Made as MadeGenerator};
@@ -17,10 +16,38 @@ pub type Header = ReedSolomon<PrimeField>;
 
 // the inner code of a slab record, row after row
 const BLOCK_ROWS: [u8; 32] = [
-    1, 0, 0, 0, 0, 1, 1, 1, //
-    0, 1, 0, 0, 1, 0, 1, 1, //
-    0, 0, 1, 0, 1, 1, 0, 1, //
-    0, 0, 0, 1, 1, 1, 1, 0,
+    1,
+    0,
+    0,
+    0,
+    0,
+    1,
+    1,
+    1, //
+    0,
+    1,
+    0,
+    0,
+    1,
+    0,
+    1,
+    1, //
+    0,
+    0,
+    1,
+    0,
+    1,
+    1,
+    0,
+    1, //
+    0,
+    0,
+    0,
+    1,
+    1,
+    1,
+    1,
+    0,
 ];
 
 // One block of a slab record.

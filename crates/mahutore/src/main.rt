@@ -37,13 +37,23 @@ const LONGEST_INPUT: u64 = 65_536;
 fn print_fault(rt: &LibcRuntime, fault: Fault) -> io::Result<()> {
     let number = fault.number();
     match fault {
-        Fault::Reach(reach) => println!(rt, "refused {number} level {} place {}", reach.level, reach.place),
+        Fault::Reach(reach) => println!(
+            rt,
+            "refused {number} level {} place {}",
+            reach.level, reach.place
+        ),
         _ => println!(rt, "refused {number}"),
     }
 }
 
 // A line for each of the first `count` messages: its number, where it has one, and its letters.
-fn print_messages(rt: &LibcRuntime, bytes: &[u8], count: usize, dimension: usize, largest: u8) -> io::Result<()> {
+fn print_messages(
+    rt: &LibcRuntime,
+    bytes: &[u8],
+    count: usize,
+    dimension: usize,
+    largest: u8,
+) -> io::Result<()> {
     if dimension == 0 {
         return Ok(());
     }
@@ -79,7 +89,15 @@ fn serve<C: Code + Drop>(rt: &LibcRuntime, code: C, task: &Task) -> Result<(), A
     let heap = rt.alloc();
     let dimension = code.dimension();
     let largest = code.base().saturating_sub(1).min(255) as u8;
-    println!(rt, "family {} letters {} places {} top {} least {}", code.family_number(), code.letters(), code.places(), code.top(), code.least())?;
+    println!(
+        rt,
+        "family {} letters {} places {} top {} least {}",
+        code.family_number(),
+        code.letters(),
+        code.places(),
+        code.top(),
+        code.least()
+    )?;
     let calls = task.calls.as_slice();
     let mut answers = vec![in heap; Err(Fault::Empty); calls.len()]?;
     let mut buffers = vec![in heap; 0u8; ROOM.saturating_mul(calls.len())]?;
@@ -137,7 +155,10 @@ fn run_brine(rt: &LibcRuntime, task: &Task) -> Result<(), AnyError> {
 
 fn main(rt: LibcRuntime) -> Result<(), AnyError> {
     let mut text = String::new(rt.alloc());
-    if rt.stdin().take(LONGEST_INPUT).read_to_string(&mut text).is_err() {
+    if rt.stdin()
+        .take(LONGEST_INPUT)
+        .read_to_string(&mut text)
+        .is_err() {
         println!(rt, "bad task: the input is no text")?;
         return Ok(());
     }

@@ -49,12 +49,17 @@ impl<T: Drop> From<Refused<T>> for BadTask as RefusedBadTask {
 
 pub impl fmt::Display for BadTask as BadTaskDisplay {
     fn fmt<W: fmt::Write>(&self, f: &mut fmt::Formatter<W>) -> fmt::Result {
-        f.write_str(match self {
-            BadTask::Code => "the first line is: code block, code slab, code header or code brine",
-            BadTask::Command => "a command is: hear PLACE LETTER, strike PLACE, or list AGREEMENT",
-            BadTask::Number => "a place and an agreement are whole numbers, and a letter is below 256",
-            BadTask::Memory => "there is not enough memory",
-        })
+        f.write_str(
+            match self {
+                BadTask::Code =>
+                    "the first line is: code block, code slab, code header or code brine",
+                BadTask::Command =>
+                    "a command is: hear PLACE LETTER, strike PLACE, or list AGREEMENT",
+                BadTask::Number =>
+                    "a place and an agreement are whole numbers, and a letter is below 256",
+                BadTask::Memory => "there is not enough memory",
+            },
+        )
     }
 }
 

@@ -61,7 +61,7 @@ kept-pass : (f : List ℕ → Bool) (P : List ℕ → Type 0) → ((x : List ℕ
 kept-pass f P h [] = tt
 kept-pass f P h (x ∷ l) =
     elim (f x) as (λ b. (b ≡ true → P x) → Each P (cond b (x ∷ kept-by f l) (kept-by f l)))
-      [ true ↦ (λ p. (p refl, kept-pass f P h l)) | false ↦ (λ p. kept-pass f P h l) ] (h x)
+    [ true ↦ (λ p. (p refl, kept-pass f P h l)) | false ↦ (λ p. kept-pass f P h l) ] (h x)
 
 positive : (r t : ℕ) → 1 ≤ r → 1 ≤ t → 1 ≤ r * t
 positive zero t a b = absurd (omega arith)
@@ -90,9 +90,9 @@ module _ (F : Field) (L : Laws F) (n k : ℕ) (fit : Bounds n k) (ps : List ℕ)
       let more = subst (λ z. conditions z r < monomials 16 (k - 1) (r * t - 1)) (sym count) (ltb-true (conditions (weight s) r) _ (p .1)) in
       let ek : k ≡ suc (k - 1) = let h = fit .k-low in omega arith in
       let b = code-list-bound F L r t 16 (k - 1) (points-of (pairs-of ps s)) (letters-of (pairs-of ps s)) (listing (rs-at limits F n ps k) s t)
-            (sheet-pairs F ps s (points .below) (points .apart) (sheet-parts .1)) pos more
-            (subst (λ z. Each (λ f. Coded F f × (length f ≡ z)) (listing (rs-at limits F n ps k) s t)) ek (rows-coded F k _ (listing-rows (rs-at limits F n ps k) s t)))
-            (rising-apart _ (listing-rises (rs-at limits F n ps k) s t)) scored in
+      (sheet-pairs F ps s (points .below) (points .apart) (sheet-parts .1)) pos more
+      (subst (λ z. Each (λ f. Coded F f × (length f ≡ z)) (listing (rs-at limits F n ps k) s t)) ek (rows-coded F k _ (listing-rows (rs-at limits F n ps k) s t)))
+      (rising-apart _ (listing-rises (rs-at limits F n ps k) s t)) scored in
       omega (arith, b)
 
 pub few-listed : Few-listed

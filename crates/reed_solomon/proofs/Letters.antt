@@ -68,4 +68,4 @@ letters-apart S zero = tt
 letters-apart S (suc n) =
     distinct-append (letters S n) (cond (S n) (n ∷ []) []) (letters-apart S n) (distinct-if (S n) n)
     (each-weak (λ l. l < n) (λ l. Each (λ y. ¬ (l ≡ y)) (cond (S n) (n ∷ []) []))
-      (λ l h. each-if (λ y. ¬ (l ≡ y)) (S n) n (λ _ e. omega arith)) (letters S n) (letters-below S n))
+    (λ l h. each-if (λ y. ¬ (l ≡ y)) (S n) n (λ _ e. omega arith)) (letters S n) (letters-below S n))

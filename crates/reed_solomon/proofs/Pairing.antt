@@ -42,7 +42,7 @@ of-points P (x ∷ points) [] h = tt
 of-points P (x ∷ points) (S ∷ s) h =
     each-append (λ p. P (p .0)) (at-point x (letters S 256)) (pairs-of points s)
     (each-over (λ p. P (p .0)) (λ l. (x, l)) (letters S 256) (all (letters S 256))) (of-points P points s (h .1))
-    where
+  where
     all : (ls : List ℕ) → Each (λ l. P x) ls
     all [] = tt
     all (l ∷ ls) = (h .0, all ls)
@@ -70,7 +70,7 @@ pairs-apart (x ∷ points) (S ∷ s) a =
     (distinct-map (λ _. Unit {0}) (λ l. (x, l)) (letters S 256) (λ l m _ _ e. ap (λ (p : ℕ × ℕ). p .1) e) (unit-each (letters S 256)) (letters-apart S 256))
     (pairs-apart points s (a .1))
     (each-over (λ p. Each (λ r. ¬ (p ≡ r)) (pairs-of points s)) (λ l. (x, l)) (letters S 256)
-      (each-map (λ l _. each-map (λ r ne e. ne (ap (λ (p : ℕ × ℕ). p .0) e)) (pairs-of points s) (of-points (λ y. ¬ (x ≡ y)) points s (a .0))) (letters S 256) (unit-each (letters S 256))))
+    (each-map (λ l _. each-map (λ r ne e. ne (ap (λ (p : ℕ × ℕ). p .0) e)) (pairs-of points s) (of-points (λ y. ¬ (x ≡ y)) points s (a .0))) (letters S 256) (unit-each (letters S 256))))
 
 each-getD : {A : Type 0} (P : A → Type 0) (l : List A) (d : A) → Each P l → (i : ℕ) → i < length l → P (getD l i d)
 each-getD P [] d e i h = absurd (omega arith)
@@ -85,7 +85,7 @@ distinct-getD (x ∷ l) d e (suc i) (suc j) o h = distinct-getD l d (e .1) i j (
 
 -- different pairs of codes
 pub sheet-pairs : (F : Field) (points : List ℕ) (s : Sheet) → Each (λ x. x < F .size) points → Distinct points → every (below (F .size) 256) s ≡ true
-  → Pairs F (points-of (pairs-of points s)) (letters-of (pairs-of points s))
+    → Pairs F (points-of (pairs-of points s)) (letters-of (pairs-of points s))
 sheet-pairs F points s low apart fits =
     let P = pairs-of points s in
     let ex = length-map P (λ (p : ℕ × ℕ). p .0) in
@@ -173,14 +173,14 @@ module _ (F : Field) (L : Laws F) (g : List ℕ) where
   past x S (suc n) h =
       count-more x S n
       ∙ ⊎-elim
-        (λ e. let a = before x S n (omega arith) in
-              let b : cond (S n) (one (x, n)) 0 ≡ cond (S n) 1 0 = ap (λ z. cond (S n) (cond z 1 0) 0) (eq-eqb (value F g x) n e) in
-              let z : count (at-point x (letters S n)) + cond (S n) (one (x, n)) 0 ≡ cond (S n) 1 0 = omega arith in
-              z ∙ ap (λ k. cond (S k) 1 0) (sym e))
-        (λ ne. let a = past x S n (omega arith) in
-               let b = none (S n) (one (x, n)) (ap (λ z. cond z 1 0) (ne-eqb (value F g x) n ne)) in
-               let z : count (at-point x (letters S n)) + cond (S n) (one (x, n)) 0 ≡ cond (S (value F g x)) 1 0 = omega arith in z)
-        (cases-eq (value F g x) n)
+      (λ e. let a = before x S n (omega arith) in
+      let b : cond (S n) (one (x, n)) 0 ≡ cond (S n) 1 0 = ap (λ z. cond (S n) (cond z 1 0) 0) (eq-eqb (value F g x) n e) in
+      let z : count (at-point x (letters S n)) + cond (S n) (one (x, n)) 0 ≡ cond (S n) 1 0 = omega arith in
+      z ∙ ap (λ k. cond (S k) 1 0) (sym e))
+      (λ ne. let a = past x S n (omega arith) in
+      let b = none (S n) (one (x, n)) (ap (λ z. cond z 1 0) (ne-eqb (value F g x) n ne)) in
+      let z : count (at-point x (letters S n)) + cond (S n) (one (x, n)) 0 ≡ cond (S (value F g x)) 1 0 = omega arith in z)
+      (cases-eq (value F g x) n)
 
   value-low : (cs : List ℕ) (x j : ℕ) → value-from F x j cs < 256
   value-low [] x j = omega arith

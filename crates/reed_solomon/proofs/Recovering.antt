@@ -55,9 +55,9 @@ module _ (F : Field) (L : Laws F) (n k : ℕ) (shape : Shape F n k) (s : Sheet) 
   all-taken limit e =
       let points = spanned F n (shape .n-q) in
       fed-all F limit (λ x. x < n) (λ x h. let b = shape .bounds .n-high in omega arith) [] P
-        (sheet-pairs F (span 0 n) s (points .below) (points .apart) (parts .1))
-        (of-points (λ x. x < n) (span 0 n) s (span-below n 0 n (omega arith)))
-        (let c = pairs-count (span 0 n) s (points .count ∙ sym places) in omega arith)
+      (sheet-pairs F (span 0 n) s (points .below) (points .apart) (parts .1))
+      (of-points (λ x. x < n) (span 0 n) s (span-below n 0 n (omega arith)))
+      (let c = pairs-count (span 0 n) s (points .count ∙ sym places) in omega arith)
 
   same-list : recovered F k t (points-of P) (letters-of P) ≡ listing (rs-meaning limits F n k) s t
   unfolding recovered listing
@@ -80,17 +80,17 @@ module _ (F : Field) (L : Laws F) (n k : ℕ) (shape : Shape F n k) (s : Sheet) 
     pub opens-in-reach : (limit r : ℕ) → limit ≡ weight s → opened k t limit ≡ Ok r → rs-meaning limits F n k .reach s t ≡ within
     opens-in-reach limit r e h = by (by-counting limits (k - 1) t (weight s)) (sym (opened-is limit e) ∙ h)
       where
-      by : (o : Option ℕ) → reached-by o ≡ Ok r → cond (isSome o) within (beyond 0 0) ≡ within
-      by (Some r) q = refl
-      by None q = absurd (let z : _≡_ {A = ℕ} 0 1 = cc in omega arith)
+        by : (o : Option ℕ) → reached-by o ≡ Ok r → cond (isSome o) within (beyond 0 0) ≡ within
+        by (Some r) q = refl
+        by None q = absurd (let z : _≡_ {A = ℕ} 0 1 = cc in omega arith)
 
     pub refused-out-of-reach : (limit len : ℕ) (f : Fault) → limit ≡ weight s → opened k t limit ≡ Err f
-      → Err f ≡ reached k len (listing (rs-meaning limits F n k) s t) (rs-meaning limits F n k .reach s t)
+        → Err f ≡ reached k len (listing (rs-meaning limits F n k) s t) (rs-meaning limits F n k .reach s t)
     refused-out-of-reach limit len f e h = by (by-counting limits (k - 1) t (weight s)) (sym (opened-is limit e) ∙ h)
       where
-      by : (o : Option ℕ) → reached-by o ≡ Err f → Err f ≡ reached k len (listing (rs-meaning limits F n k) s t) (cond (isSome o) within (beyond 0 0))
-      by None q = sym q
-      by (Some r) q = absurd (let z : _≡_ {A = ℕ} 0 1 = cc in omega arith)
+        by : (o : Option ℕ) → reached-by o ≡ Err f → Err f ≡ reached k len (listing (rs-meaning limits F n k) s t) (cond (isSome o) within (beyond 0 0))
+        by None q = sym q
+        by (Some r) q = absurd (let z : _≡_ {A = ℕ} 0 1 = cc in omega arith)
 
   -- what is held after the whole sheet was offered to an empty fitting
   pub held-all : (limit len : ℕ) (start held : List ℕ × List ℕ) → limit ≡ weight s → len ≡ n → start ≡ ([], []) → held ≡ fed F limit start (pairs-of (span 0 len) s) → held ≡ (points-of P, letters-of P)
@@ -98,5 +98,5 @@ module _ (F : Field) (L : Laws F) (n k : ℕ) (shape : Shape F n k) (s : Sheet) 
 
   -- the same list, said of equal arguments
   pub list-same : (G : Field) (k′ t′ : ℕ) (xs ys : List ℕ) → G ≡ F → k′ ≡ k → t′ ≡ t → _≡_ {A = List ℕ × List ℕ} (xs, ys) (points-of P, letters-of P)
-    → recovered G k′ t′ xs ys ≡ listing (rs-meaning limits F n k) s t
+      → recovered G k′ t′ xs ys ≡ listing (rs-meaning limits F n k) s t
   list-same G k′ t′ xs ys eG ek et e = ap (λ z. recovered z k′ t′ xs ys) eG ∙ ap₂ (λ a b. recovered F a b xs ys) ek et ∙ recovered-is xs ys e

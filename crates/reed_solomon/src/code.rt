@@ -26,6 +26,7 @@ use sheet::load;
 
 // The most message letters, and places.
 pub const MAX_LETTERS: usize = 16;
+
 pub const MAX_PLACES: usize = 64;
 
 // The code of n places and messages of k letters: a word is the values of a polynomial at the elements with codes 0 to n - 1.
@@ -75,7 +76,11 @@ impl<F: Field + Drop> ReedSolomon<F> {
         ensures made { λ r. ⌜ elim r [ Ok c ↦ Made (F·Field .means) c | Err e ↦ Unit {0} ] ⌝ }
     {
         let q = field.size() as usize;
-        if is_shaped(q, n, k) { Ok(ReedSolomon { field, n, k }) } else { Err(Fault::Shape) }
+        if is_shaped(q, n, k) {
+            Ok(ReedSolomon { field, n, k })
+        } else {
+            Err(Fault::Shape)
+        }
     }
 }
 

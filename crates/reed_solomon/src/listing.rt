@@ -29,7 +29,7 @@ pub impl<F: Field> Code for ReedSolomon<F> as ReedSolomonCode {
     }
 
     fn base(&self) -> usize {
-        self.field.size() as usize
+        self.letters()
     }
 
     fn dimension(&self) -> usize {
@@ -37,7 +37,7 @@ pub impl<F: Field> Code for ReedSolomon<F> as ReedSolomonCode {
     }
 
     fn top(&self) -> usize {
-        self.n
+        self.places()
     }
 
     fn least(&self) -> usize {

@@ -30,10 +30,10 @@ returns-then-is-none c =
     let back : c .loop-t .t - 1 + 1 ≡ c .loop-t .t = omega arith in
     back ∙
     least-here limits (c .args .n) (c .args .k) (c .loop-t .t) (omega arith) (omega arith) (c .loop-t .inv)
-      (λ u e lo. ap (λ z. in-reach limits (c .args .k - 1) z (c .args .n)) (let z : u ≡ c .loop-t .t - 1 = omega arith in z) ∙ sym (ap isSome (c .counting .ensures)) ∙ c .if-is-none .ensures tt)
+    (λ u e lo. ap (λ z. in-reach limits (c .args .k - 1) z (c .args .n)) (let z : u ≡ c .loop-t .t - 1 = omega arith in z) ∙ sym (ap isSome (c .counting .ensures)) ∙ c .if-is-none .ensures tt)
 
 pub returns : need.returns
 returns c =
     let k = c .loop-t .kept .t in
     least-here limits (c .args .n) (c .args .k) (c .args .k) (omega arith) (c .pre .within)
-      (λ u lo hi. c .loop-t .inv u (omega (arith, c .loop-t-test .left)) hi) (λ u e lo. absurd (omega arith))
+    (λ u lo hi. c .loop-t .inv u (omega (arith, c .loop-t-test .left)) hi) (λ u e lo. absurd (omega arith))

@@ -11,4 +11,4 @@ pub returns : need.returns
 unfolding word-at
 returns g c =
     all-values (λ i. value (g .F·Field .means (c .args .field .now)) (c .args .message .now) i) (c .loop-i .word) (length (c .args .word .now)) (c .loop-i .kept .word)
-      (λ k h. c .loop-i .inv k (omega (arith, c .loop-i-test .left, c .loop-i .kept .word)))
+    (λ k h. c .loop-i .inv k (omega (arith, c .loop-i-test .left, c .loop-i .kept .word)))

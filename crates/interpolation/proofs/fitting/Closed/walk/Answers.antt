@@ -30,12 +30,12 @@ walk-curve-requires g c κs =
       within = omega arith;
       pairs = omega arith;
       light =
-        subst (λ z. Degree-below (codes F) columns rows (c .args .self .plan .k - 1) (z + 1) (table F columns (c .args .self .curve .cells))) (sym d)
+          subst (λ z. Degree-below (codes F) columns rows (c .args .self .plan .k - 1) (z + 1) (table F columns (c .args .self .curve .cells))) (sym d)
           (light F L (c .args .self .plan .k) (c .args .self .plan .t) (c .args .self .plan .r) (points-of (c .args .self .pairs)) (values-of (c .args .self .pairs)) (c .args .self .curve .cells)
-            (c .args .self .plan .«k_low») pos (c .pre .made .pairs) (c .pre .made .fitted));
+          (c .args .self .plan .«k_low») pos (c .pre .made .pairs) (c .pre .made .fitted));
       covers =
-        subst₂ (λ u v. (f : List ℕ) → isRow (c .args .self .plan .k) (F .size) f ≡ true → c .args .self .plan .t ≤ score F u v f → Lies (codes F) columns rows (table F columns (c .args .self .curve .cells)) f)
+          subst₂ (λ u v. (f : List ℕ) → isRow (c .args .self .plan .k) (F .size) f ≡ true → c .args .self .plan .t ≤ score F u v f → Lies (codes F) columns rows (table F columns (c .args .self .curve .cells)) f)
           (sym (c .points .ensures)) (sym (c .values .ensures))
           (covers F L (c .args .self .plan .k) (c .args .self .plan .t) (c .args .self .plan .r) (points-of (c .args .self .pairs)) (values-of (c .args .self .pairs)) (c .args .self .curve .cells)
-            (c .args .self .plan .«k_low») pos (c .pre .made .pairs) (c .pre .made .fitted));
+          (c .args .self .plan .«k_low») pos (c .pre .made .pairs) (c .pre .made .fitted));
     }

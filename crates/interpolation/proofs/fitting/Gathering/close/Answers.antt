@@ -19,9 +19,16 @@ interpolate-curve-requires g c κs =
     let m = more-monomials (c .args .self .plan .k - 1) (c .args .self .plan .t) (c .args .self .plan .limit) (c .args .self .plan .r) (c .args .self .plan .counted) in
     let n = conditions-le (length (points-of (c .args .self .pairs))) (c .args .self .plan .limit) (c .args .self .plan .r) few in
     let low = c .args .self .plan .«k_low» in
-    let high = c .args .self .plan .«k_high» in
-    (omega arith, (omega arith, (omega arith,
-      subst₂ (λ u v. u * c .args .self .plan .r * (c .args .self .plan .r + 1) / 2 < monomials 16 (c .args .self .plan .k - 1) v) (sym px) (sym d) (omega (arith, n, m)))))
+    let high = c .args .self .plan .«k_high» in (
+      omega arith,
+      (
+        omega arith,
+        (
+          omega arith,
+          subst₂ (λ u v. u * c .args .self .plan .r * (c .args .self .plan .r + 1) / 2 < monomials 16 (c .args .self .plan .k - 1) v) (sym px) (sym d) (omega (arith, n, m)),
+        ),
+      ),
+    )
 
 pub returns : need.returns
 returns g c = record {
@@ -31,7 +38,7 @@ returns g c = record {
   made = record {
     pairs = c .pre .made .pairs;
     fitted =
-      fitted-same (g .F·Field .means (c .args .self .field .now)) (c .args .self .plan .k - 1) _ _ (c .args .self .plan .r) _ _ _ _ (c .interpolate-curve .result .cells)
+        fitted-same (g .F·Field .means (c .args .self .field .now)) (c .args .self .plan .k - 1) _ _ (c .args .self .plan .r) _ _ _ _ (c .interpolate-curve .result .cells)
         (c .degree .ensures) (c .points .ensures) (c .values .ensures) (c .interpolate-curve .ensures);
   };
 }

@@ -17,8 +17,8 @@ apply-requires g c κs =
     let p = c .choose-p .result in
     let cs = c .args .self .now .curves in
     let fails = λ (j : ℕ) (h : j < rows) (off : at (c .values-ds .result) j ≢ 0).
-        fails-live (g .F·Field .means (c .args .field .now)) (g .F·Field·met .lawful (c .args .field .now)) (c .args .self .now .weight) (c .args .self .now .degree) (c .args .wx .now) (c .args .wy .now)
-        (led cs j) j (at (c .values-ds .result) j) (c .values-ds .ensures .each j h) off in
+    fails-live (g .F·Field .means (c .args .field .now)) (g .F·Field·met .lawful (c .args .field .now)) (c .args .self .now .weight) (c .args .self .now .degree) (c .args .wx .now) (c .args .wy .now)
+    (led cs j) j (at (c .values-ds .result) j) (c .values-ds .ensures .each j h) off in
     let live = fails p lt (c .choose-p .ensures .off lt) in
     (c .pre .0, (c .pre .1 .0, (lt, ((let q : led cs p .lead < columns = omega arith in q), λ j h off. small (fails j h off) (c .pre .1 .0)))))
 

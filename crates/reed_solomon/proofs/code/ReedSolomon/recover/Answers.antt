@@ -21,12 +21,12 @@ pub offer-sheet-requires : need.offer-sheet-requires
 offer-sheet-requires g c κs = record {
   made = c .new-fitting .ensures .made;
   short =
-    ap-le (length-map (c .args .sheet .now) stands)
+      ap-le (length-map (c .args .sheet .now) stands)
       (short (g .F·Field .means (c .args .self .now .field)) (g .F·Field·met .lawful (c .args .self .now .field)) (c .args .self .now .n) (c .args .self .now .k) (c .pre .made) (sheet-of (c .args .sheet .now)) (c .args .t) (c .pre .whole));
 }
   where
-  ap-le : {a b : ℕ} → a ≡ b → Prim.Native.Nat._≤_ a 256 → Prim.Native.Nat._≤_ b 256
-  ap-le e h = mathlib.Core.Path.subst (λ z. Prim.Native.Nat._≤_ z 256) e h
+    ap-le : {a b : ℕ} → a ≡ b → Prim.Native.Nat._≤_ a 256 → Prim.Native.Nat._≤_ b 256
+    ap-le e h = mathlib.Core.Path.subst (λ z. Prim.Native.Nat._≤_ z 256) e h
 
 pub returns-in-Ok : need.returns-in-Ok
 returns-in-Ok g c =
@@ -41,21 +41,21 @@ returns-in-Ok g c =
     let field : c .close .result .field .now ≡ c .args .self .now .field = c .close .ensures .field ∙ c .offer-sheet .ensures .field ∙ c .new-fitting .ensures .field in
     let limit : c .new-fitting .result .plan .limit ≡ _ = ap (λ (p : Plan). p .limit) (c .new-fitting .ensures .plan) ∙ o .3 ∙ load in
     let held : _≡_ {A = List ℕ × List ℕ} (points-of (c .close .result .pairs), values-of (c .close .result .pairs)) _ =
-          ap (λ (p : Pairs). (points-of p, values-of p)) (c .close .ensures .pairs)
-          ∙ held-all F L n k (c .pre .made) s (c .args .t) (c .pre .whole) (c .new-fitting .result .plan .limit) (length (c .args .sheet .now)) _ _ limit
-              (sym (length-map (c .args .sheet .now) stands) ∙ places F L n k (c .pre .made) s (c .args .t) (c .pre .whole))
-              (ap₂ (λ u v. (u, v)) (c .new-fitting .ensures .points) (c .new-fitting .ensures .values))
-              (c .offer-sheet .ensures .held
-               ∙ ap (λ z. fed (g .F·Field .means z) (c .new-fitting .result .plan .limit) (points-of (c .new-fitting .result .pairs), values-of (c .new-fitting .result .pairs)) (pairs-of (span 0 (length (c .args .sheet .now))) s)) (c .new-fitting .ensures .field)) in
+    ap (λ (p : Pairs). (points-of p, values-of p)) (c .close .ensures .pairs)
+    ∙ held-all F L n k (c .pre .made) s (c .args .t) (c .pre .whole) (c .new-fitting .result .plan .limit) (length (c .args .sheet .now)) _ _ limit
+    (sym (length-map (c .args .sheet .now) stands) ∙ places F L n k (c .pre .made) s (c .args .t) (c .pre .whole))
+    (ap₂ (λ u v. (u, v)) (c .new-fitting .ensures .points) (c .new-fitting .ensures .values))
+    (c .offer-sheet .ensures .held
+    ∙ ap (λ z. fed (g .F·Field .means z) (c .new-fitting .result .plan .limit) (points-of (c .new-fitting .result .pairs), values-of (c .new-fitting .result .pairs)) (pairs-of (span 0 (length (c .args .sheet .now))) s)) (c .new-fitting .ensures .field)) in
     let list =
-          list-same F L n k (c .pre .made) s (c .args .t) (c .pre .whole) (g .F·Field .means (c .close .result .field .now)) (c .close .result .plan .k) (c .close .result .plan .t) (points-of (c .close .result .pairs)) (values-of (c .close .result .pairs))
-            (ap (g .F·Field .means) field) (ap (λ (p : Plan). p .k) plan ∙ o .1) (ap (λ (p : Plan). p .t) plan ∙ o .2) held in
+    list-same F L n k (c .pre .made) s (c .args .t) (c .pre .whole) (g .F·Field .means (c .close .result .field .now)) (c .close .result .plan .k) (c .close .result .plan .t) (points-of (c .close .result .pairs)) (values-of (c .close .result .pairs))
+    (ap (g .F·Field .means) field) (ap (λ (p : Plan). p .k) plan ∙ o .1) (ap (λ (p : Plan). p .t) plan ∙ o .2) held in
     let in-reach = opens-in-reach F L n k (c .pre .made) s (c .args .t) (c .pre .whole) (c .pre .low) (c .pre .high) (c .load .result) (c .in-Ok .plan .r) load (o .0) in
     record {
       answer =
-        c .walk .ensures .answer
-        ∙ ap₂ (λ z l. reached z (length (c .args .buf .now)) l within) (ap (λ (p : Plan). p .k) plan ∙ o .1) list
-        ∙ ap (reached k (length (c .args .buf .now)) (listing (meaning-of (g .F·Field .means) (c .args .self .now)) s (c .args .t))) (sym in-reach);
+          c .walk .ensures .answer
+          ∙ ap₂ (λ z l. reached z (length (c .args .buf .now)) l within) (ap (λ (p : Plan). p .k) plan ∙ o .1) list
+          ∙ ap (reached k (length (c .args .buf .now)) (listing (meaning-of (g .F·Field .means) (c .args .self .now)) s (c .args .t))) (sym in-reach);
       buffer = c .walk .ensures .buffer ∙ ap (λ l. laid (length (c .args .buf .now)) l (c .walk .result)) list;
     }
 
@@ -66,7 +66,7 @@ returns-in-Err g c =
     let s = sheet-of (c .args .sheet .now) in
     record {
       answer =
-        refused-out-of-reach F L (c .args .self .now .n) (c .args .self .now .k) (c .pre .made) s (c .args .t) (c .pre .whole) (c .pre .low) (c .pre .high) (c .load .result) (length (c .args .buf .now)) (c .in-Err .fault)
+          refused-out-of-reach F L (c .args .self .now .n) (c .args .self .now .k) (c .pre .made) s (c .args .t) (c .pre .whole) (c .pre .low) (c .pre .high) (c .load .result) (length (c .args .buf .now)) (c .in-Err .fault)
           (load-is F L (c .args .self .now .n) (c .args .self .now .k) (c .pre .made) s (c .args .t) (c .pre .whole) (c .load .result) (c .load .ensures)) (c .in-Err .ensures tt);
       buffer = search needs;
     }
