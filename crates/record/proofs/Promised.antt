@@ -194,20 +194,20 @@ module _ (m : Meaning) (rule : ListingRule m) (calls : List Call) (bs : List ℕ
     exact-at count ok = exactly m rule u t len count (buffer-of calls total i bytes) (sym ok ∙ listed-at) shows-at
 
     -- the same, where it is known which code m is
-    module _ (c : Meaning) (e : m ≡ c) (lo : 1 ≤ t) (hi : t ≤ m .top) where
+    module _ (c : Meaning) (e : m ≡ c) where
       listed-by : answer-at replies i ≡ listed c u t len
       listed-by = listed-at ∙ ap (λ z. listed z u t len) e
 
       whole-by : isSheet c u ≡ true
       whole-by = ap (λ z. isSheet z u) (sym e) ∙ whole
 
-      high-by : t ≤ c .top
-      high-by = subst (λ z. t ≤ z .top) e hi
+      high-by : t ≤ m .top → t ≤ c .top
+      high-by hi = subst (λ z. t ≤ z .top) e hi
 
     concatenation-at : (mo mi : Meaning) (a : ℕ) → m ≡ concatenated mo mi a → 1 ≤ t → t ≤ m .top → Iff (Says-reach (answer-at replies i)) (Part-out mo mi a u t)
     concatenation-at mo mi a e lo hi =
         let c = concatenated mo mi a in
-        subst (λ r. Iff (Says-reach r) (Part-out mo mi a u t)) (sym (listed-by c e lo hi)) (reach-by-parts mo mi a u t len (whole-by c e lo hi) lo (high-by c e lo hi))
+        subst (λ r. Iff (Says-reach r) (Part-out mo mi a u t)) (sym (listed-by c e)) (reach-by-parts mo mi a u t len (whole-by c e) lo (high-by c e hi))
 
     module _ (F : Field) (n k : ℕ) (points : List ℕ) (is : Is-reed-solomon m F n k points) where
       abbrev rs : Meaning
@@ -216,7 +216,7 @@ module _ (m : Meaning) (rule : ListingRule m) (calls : List Call) (bs : List ℕ
       reed-solomon-at : 1 ≤ t → t ≤ m .top → Iff (Says-reach (answer-at replies i)) (in-reach limits (k - 1) t (weight u) ≡ false)
       reed-solomon-at lo hi =
           subst (λ r. Iff (Says-reach r) (in-reach limits (k - 1) t (weight u) ≡ false))
-          (sym (listed-by rs (is .is) lo hi ∙ past-tests rs u t len (whole-by rs (is .is) lo hi) lo (high-by rs (is .is) lo hi)))
+          (sym (listed-by rs (is .is) ∙ past-tests rs u t len (whole-by rs (is .is)) lo (high-by rs (is .is) hi)))
           (counted-out k len (listing rs u t) (in-reach limits (k - 1) t (weight u)))
 
       few-at : (count : ℕ) → answer-at replies i ≡ Ok count → count ≤ 15

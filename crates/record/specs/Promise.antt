@@ -30,7 +30,7 @@ pub record One-stands (m : Meaning) (calls : List Call) (answers : List Answer) 
   pub whole : isSheet m sheet ≡ true
   pub alone : (s : Sheet) → Stands-after m calls answers i s → s ≡ sheet
 
--- call i is a list at agreement t, and s holds the letters that stand then
+-- call i is a list at agreement t that asks for so many bytes, and s holds the letters that stand then
 pub record Lists-at (m : Meaning) (calls : List Call) (answers : List Answer) (i t room : ℕ) (s : Sheet) : Type 0 where
   pub lists : Is-call calls i (Lists t room)
   pub stands : Stands-after m calls answers i s
@@ -51,12 +51,12 @@ pub record Is-reed-solomon (m : Meaning) (F : Field) (n k : ℕ) (points : List 
   pub points-apart : Points F n points
   pub is : m ≡ rs-at limits F n points k
 
--- m is what the code means. The calls and their answers are listed in the order of the calls, `bytes` are the bytes of all the buffers
+-- m is what the code means. Answer i is that of call i, and slots that no call uses may follow. `bytes` are all the bytes of the buffers
 -- after the calls, `total` of them, and s holds the letters that stand at the end.
 pub record Promise (m : Meaning) (calls : List Call) (answers : List Answer) (total : ℕ) (bytes : List ℕ) (s : Sheet) : Type 0 where
   -- a letter stands at the end if and only if some accepted hear of it at its place has no accepted strike of the place after it
   pub letters : Remembers s calls answers
-  -- before each call and at the end there is one sheet that holds the letters standing then, so no line below is empty
+  -- before each call and at the end there is just one sheet that holds the letters standing then, so no line below says nothing
   pub stood : (i : ℕ) → i ≤ length calls → One-stands m calls answers i
   -- each call, refused or not, answers what the plain book answers that holds the letters standing then
   pub answered : (i : ℕ) → i < length calls → (u : Sheet) → Stands-after m calls answers i u

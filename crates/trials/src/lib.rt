@@ -1,0 +1,5 @@
+// Lists against brute force over all messages, and a fitting used alone, through the public calls. Tests only.
+#[cfg(test)]
+mod brute_force;
+#[cfg(test)]
+mod fitting_alone;
