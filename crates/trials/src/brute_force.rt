@@ -21,13 +21,13 @@ const MOST_LETTERS: usize = 8;
 const ROOM: usize = 2048;
 
 // The next number of a fixed sequence that looks random, below 2^15.
-fn next(state: &mut u32) -> u32 {
+pub(crate) fn next(state: &mut u32) -> u32 {
     *state = state.wrapping_mul(1_103_515_245).wrapping_add(12_345);
     *state / 65_536 % 32_768
 }
 
 // A word of the code with some letters changed, and some letters more.
-fn noisy_sheet(state: &mut u32, word: &[u8], letters: u32, sheet: &mut [Marks]) {
+pub(crate) fn noisy_sheet(state: &mut u32, word: &[u8], letters: u32, sheet: &mut [Marks]) {
     for i in 0..sheet.len() {
         let mut marks = Marks::new();
         if i < word.len() && next(state) % 4 != 0 {

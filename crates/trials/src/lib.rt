@@ -2,4 +2,6 @@
 #[cfg(test)]
 mod brute_force;
 #[cfg(test)]
+mod concatenations;
+#[cfg(test)]
 mod fitting_alone;
