@@ -19,7 +19,9 @@ use sheet::Marks;
 use std::test::*;
 
 const MOST_PLACES: usize = 96;
+
 const MOST_LETTERS: usize = 8;
+
 const ROOM: usize = 1024;
 
 // the letters of the block code: two message letters and their sum
@@ -63,11 +65,21 @@ fn numbers<C: Code>(code: &C, total: u8, sheet: &[Marks], t: usize) -> Result<Ma
 // Block b, of n places.
 fn block_of(sheet: &[Marks], b: usize, n: usize) -> &[Marks] {
     let at = b.wrapping_mul(n);
-    if at <= sheet.len() && n <= sheet.len() - at { &sheet[at..at + n] } else { &sheet[0..0] }
+    if at <= sheet.len() && n <= sheet.len() - at {
+        &sheet[at..at + n]
+    } else {
+        &sheet[0..0]
+    }
 }
 
 // What each block of a plain inner code gives at the inner agreement.
-fn lift<I: Code>(inner: &I, last: u8, a: usize, sheet: &[Marks], lifted: &mut [Marks]) -> Result<(), Fail>
+fn lift<I: Code>(
+    inner: &I,
+    last: u8,
+    a: usize,
+    sheet: &[Marks],
+    lifted: &mut [Marks],
+) -> Result<(), Fail>
     requires made { ⌜ made (now inner) ⌝ }
 {
     let n = inner.places();
@@ -78,7 +90,15 @@ fn lift<I: Code>(inner: &I, last: u8, a: usize, sheet: &[Marks], lifted: &mut [M
 }
 
 // The numbers of the messages of a concatenation of two plain codes.
-fn numbers_of_two<O: Code, I: Code>(outer: &O, last_outer: u8, inner: &I, last_inner: u8, a: usize, sheet: &[Marks], t: usize) -> Result<Marks, Fail>
+fn numbers_of_two<O: Code, I: Code>(
+    outer: &O,
+    last_outer: u8,
+    inner: &I,
+    last_inner: u8,
+    a: usize,
+    sheet: &[Marks],
+    t: usize,
+) -> Result<Marks, Fail>
     requires made { ⌜ O·Code .made (now outer) ⌝ ∗ ⌜ I·Code .made (now inner) ⌝ }
 {
     let n = outer.places();
@@ -177,7 +197,14 @@ fn two_codes_deep() -> Result<(), Fail> {
 }
 
 // What each block of a concatenation of two plain codes gives at the middle agreement.
-fn lift_two<O: Code, I: Code>(outer: &O, inner: &I, a: usize, middle: usize, sheet: &[Marks], lifted: &mut [Marks]) -> Result<(), Fail>
+fn lift_two<O: Code, I: Code>(
+    outer: &O,
+    inner: &I,
+    a: usize,
+    middle: usize,
+    sheet: &[Marks],
+    lifted: &mut [Marks],
+) -> Result<(), Fail>
     requires made { ⌜ O·Code .made (now outer) ⌝ ∗ ⌜ I·Code .made (now inner) ⌝ }
 {
     for b in 0..lifted.len() {

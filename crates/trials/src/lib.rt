@@ -1,7 +1,9 @@
-// Lists against brute force over all messages, and a fitting used alone, through the public calls. Tests only.
+// Lists against brute force over all messages, a published word, and a fitting used alone, through the public calls. Tests only.
 #[cfg(test)]
 mod brute_force;
 #[cfg(test)]
 mod concatenations;
 #[cfg(test)]
 mod fitting_alone;
+#[cfg(test)]
+mod published;
