@@ -8,7 +8,10 @@ use native.Mathlib.Nat.{suc-mul}
 use native.Mathlib.Omega.{arith}
 use lib.Dec.{eqb, ltb, leb}
 use lib.ListN.{length}
+use Rattle.fault.specs.declared.Fault.{Fault}
 use Rattle.std.specs.Options.{isSome}
+use Rattle.std.specs.declared.result.Result.{Result}
+use Rattle.std.specs.declared.result.Result.the-variants.{Ok, Err}
 use Rattle.std.specs.declared.option.Option.{Option}
 use Rattle.std.specs.declared.option.Option.the-variants.{None, Some}
 use Rattle.std.specs.shelf.Lists.{kept-by}
@@ -23,15 +26,16 @@ use Rattle.sheet.specs.Letters.{Sheet, weight}
 use Rattle.counting.specs.Counting.{limits, conditions, suits, smallest, by-counting, in-reach}
 use Rattle.counting.proofs.First.{smallest-passes}
 use Rattle.code.specs.Messages.{every, isRow, messages}
-use Rattle.code.specs.Meaning.{isSheet, below, listing}
+use Rattle.code.specs.Meaning.{within, beyond, isSheet, below, listing}
+use Rattle.code.specs.Answers.{reached}
 use Rattle.code.specs.Rising.{less, rising}
 use Rattle.code.proofs.Alone.{row-length, row-every}
 use Rattle.code.proofs.Rows.{listing-rows}
 use Rattle.code.proofs.Once.{listing-rises}
-use Rattle.reed_solomon.specs.ReedSolomon.{word-at, rs-at, Bounds, Points}
+use Rattle.reed_solomon.specs.ReedSolomon.{word-at, rs-at, rs-meaning, Shape, Bounds, Points}
 use Rattle.reed_solomon.specs.Gathered.{pairs-of, points-of, letters-of}
-use Rattle.reed_solomon.specs.Few.{Few-listed}
-use Rattle.reed_solomon.proofs.Distance.{every-each}
+use Rattle.reed_solomon.specs.Few.{Few-listed, Few}
+use Rattle.reed_solomon.proofs.Distance.{every-each, spanned}
 use Rattle.reed_solomon.proofs.Pairing.{pairs-count, sheet-pairs, score-is}
 
 -- a rising list has no message twice
@@ -100,3 +104,20 @@ few-listed F L n k fit ps points s t hs lo hi e =
     let r = found (by-counting limits (k - 1) t (weight s)) e in
     let d = smallest-passes (suits limits (k - 1) t (weight s)) 1 4 (r .0) (r .1) in
     short F L n k fit ps points s t hs (r .0) (positive (r .0) t (d .1) lo) (d .0)
+
+-- so what is answered is few
+few-if-fits : (b : Bool) (count : ℕ) (f : Fault) → count ≤ limits .power → Few (cond b (Ok count) (Err f))
+few-if-fits true count f h = h
+few-if-fits false count f h = tt
+
+few-if-near : (k len : ℕ) (l : List (List ℕ)) (b : Bool) → (b ≡ true → length l ≤ limits .power) → Few (reached k len l (cond b within (beyond 0 0)))
+few-if-near k len l true h = few-if-fits (leb (k * length l) len) (length l) _ (h refl)
+few-if-near k len l false h = tt
+
+pub reached-few :
+    (F : Field) → Laws F → (n k : ℕ) → Shape F n k → (s : Sheet) (t len : ℕ) → isSheet (rs-meaning limits F n k) s ≡ true → (leb 1 t && leb t n) ≡ true
+    → Few (reached k len (listing (rs-meaning limits F n k) s t) (rs-meaning limits F n k .reach s t))
+reached-few F L n k shape s t len hs ht =
+    let p = and-parts (leb 1 t) (leb t n) ht in
+    few-if-near k len _ (in-reach limits (k - 1) t (weight s))
+    (few-listed F L n k (shape .bounds) _ (spanned F n (shape .n-q)) s t hs (leb-true 1 t (p .0)) (leb-true t n (p .1)))

@@ -1,4 +1,9 @@
 // A Reed-Solomon code is a code.
+ghost use mathlib.Core.Path.{_≡_};
+ghost use lib.ListN.{length};
+ghost use Rattle.sheet.specs.Standing.{sheet-of};
+ghost use Rattle.code.specs.Answers.{listed, shown};
+ghost use Rattle.reed_solomon.specs.Few.{Few};
 ghost use Rattle.reed_solomon.specs.Values.{meaning-of, Made};
 use crate::code::ReedSolomon;
 use crate::code::least_of;
@@ -56,7 +61,13 @@ pub impl<F: Field> Code for ReedSolomon<F> as ReedSolomonCode {
         Ok(())
     }
 
-    fn list(&self, sheet: &[Marks], t: usize, buf: &mut [u8]) -> Result<usize, Fault> {
+    // As every code lists, and never more than fifteen.
+    fn list(&self, sheet: &[Marks], t: usize, buf: &mut [u8]) -> Result<usize, Fault>
+        requires made { ⌜ Made (F·Field .means) (now self) ⌝ }
+        ensures answer { λ r. ⌜ r ≡ listed (meaning-of (F·Field .means) (now (self .entry))) (sheet-of (now (sheet .entry))) t (length (now (buf .entry))) ⌝ }
+        ensures buffer { λ r. ⌜ now (buf .exit) ≡ shown (meaning-of (F·Field .means) (now (self .entry))) (sheet-of (now (sheet .entry))) t (length (now (buf .entry))) ⌝ }
+        ensures few { λ r. ⌜ Few r ⌝ }
+    {
         if !self.has_sheet(sheet) {
             buf.fill(0);
             return Err(Fault::Sheet);
