@@ -112,93 +112,30 @@ fn over_binary(rt: &LibcRuntime, m: u8, task: Task, timed: bool) -> Result<(), A
     }
 }
 
-fn main(rt: LibcRuntime) -> Result<(), AnyError> {
-    let timed = env::args(&rt)?.count() > 1;
-    over_binary(
-        &rt,
-        8,
-        Task {
-            name: "brine outer",
-            n: 24,
-            k: 4,
-            t: 10,
-            load: 24,
-        },
-        timed,
-    )?;
-    over_binary(
-        &rt,
-        8,
-        Task {
-            name: "brine outer",
-            n: 24,
-            k: 4,
-            t: 11,
-            load: 24,
-        },
-        timed,
-    )?;
-    over_binary(
-        &rt,
-        8,
-        Task {
-            name: "brine outer",
-            n: 24,
-            k: 4,
-            t: 12,
-            load: 40,
-        },
-        timed,
-    )?;
-    over_binary(
-        &rt,
-        4,
-        Task {
-            name: "brine inner",
-            n: 8,
-            k: 2,
-            t: 4,
-            load: 8,
-        },
-        timed,
-    )?;
-    over_binary(
-        &rt,
-        4,
-        Task {
-            name: "brine inner",
-            n: 8,
-            k: 2,
-            t: 4,
-            load: 13,
-        },
-        timed,
-    )?;
-    over_binary(
-        &rt,
-        4,
-        Task {
-            name: "slab outer",
-            n: 15,
-            k: 4,
-            t: 8,
-            load: 15,
-        },
-        timed,
-    )?;
-    match PrimeField::new(11) {
-        Ok(field) => measure(
-            &rt,
-            field,
-            Task {
-                name: "header",
-                n: 10,
-                k: 3,
-                t: 5,
-                load: 10,
-            },
-            timed,
-        ),
+fn over_prime(rt: &LibcRuntime, p: u8, task: Task, timed: bool) -> Result<(), AnyError> {
+    match PrimeField::new(p) {
+        Ok(field) => measure(rt, field, task, timed),
         Err(_) => Err("no such field".into()),
     }
+}
+
+fn listing(name: &'static str, n: usize, k: usize, t: usize, load: usize) -> Task {
+    Task {
+        name,
+        n,
+        k,
+        t,
+        load,
+    }
+}
+
+fn main(rt: LibcRuntime) -> Result<(), AnyError> {
+    let timed = env::args(&rt)?.count() > 1;
+    over_binary(&rt, 8, listing("brine outer", 24, 4, 10, 24), timed)?;
+    over_binary(&rt, 8, listing("brine outer", 24, 4, 11, 24), timed)?;
+    over_binary(&rt, 8, listing("brine outer", 24, 4, 12, 40), timed)?;
+    over_binary(&rt, 4, listing("brine inner", 8, 2, 4, 8), timed)?;
+    over_binary(&rt, 4, listing("brine inner", 8, 2, 4, 13), timed)?;
+    over_binary(&rt, 4, listing("slab outer", 15, 4, 8, 15), timed)?;
+    over_prime(&rt, 11, listing("header", 10, 3, 5, 10), timed)
 }
