@@ -1,5 +1,8 @@
 // The mathematics of list recovery. Nothing is computed here: the contract of each function is a theorem,
 // over every field, and for the codes of every field that keeps the laws.
+
+#![tactic(auto)]
+
 ghost use Rattle.std.specs.Prelude.{◌≡◌, ℕ, ◌+◌, ◌*◌, ◌/◌, ◌<◌, [], ◌∷◌};
 ghost use Rattle.algebra.specs.Field.{Meaning, Laws, codes};
 ghost use Rattle.algebra.specs.Prime.{prime};

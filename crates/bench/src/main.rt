@@ -1,4 +1,7 @@
 // What a list costs: lists by a fitting at the sizes of the codes of the house, and with an argument how long each takes.
+
+#![tactic(auto)]
+
 ghost use Rattle.interpolation.specs.Fitting.{points_of, values_of, Gathered};
 
 use anyhow::anyhow;

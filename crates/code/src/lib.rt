@@ -1,4 +1,7 @@
 // What a code is, and what listing by it means.
+
+#![tactic(auto)]
+
 mod messages;
 mod score;
 mod sheets;

@@ -1,4 +1,7 @@
 // Concatenated codes: an outer code above an inner code, each of any kind. The trade calls one a pile.
+
+#![tactic(auto)]
+
 mod coding;
 mod joining;
 mod lifting;

@@ -1,4 +1,7 @@
 // The counting rule: how many pairs a curve of bounded degree can be fitted to.
+
+#![tactic(auto)]
+
 ghost use Rattle.std.specs.Prelude.{◌≡◌, ◌-◌, ◌≤◌, nat_lt};
 ghost use Rattle.algebra.specs.Interpolation.{monomials};
 ghost use Rattle.counting.specs.Counting.{limits, conditions, suits, smallest, by_counting};

@@ -1,4 +1,7 @@
 // Why a call is refused: one enum for the whole library, each case with its number.
+
+#![tactic(auto)]
+
 ghost use Rattle.std.specs.Prelude.{◌≡◌};
 ghost use Rattle.fault.specs.Numbers.{number};
 

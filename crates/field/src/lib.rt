@@ -1,4 +1,7 @@
 // Finite fields by code: an element is a number below the size, 0 is zero and 1 is one.
+
+#![tactic(auto)]
+
 mod binary;
 mod operand;
 mod polynomial;

@@ -1,4 +1,7 @@
 // The figures that are proved of the definitions, jointly, and outside vectors that are run.
+
+#![tactic(auto)]
+
 ghost use Rattle.std.specs.Prelude.{◌≡◌, [], ◌∷◌, map};
 ghost use Rattle.algebra.specs.Prime.{prime};
 ghost use Rattle.algebra.specs.Binary.{binary};

@@ -1,4 +1,7 @@
 // Generator codes: a word is the sum of message letter times row of a table.
+
+#![tactic(auto)]
+
 mod laws;
 mod listing;
 mod table;

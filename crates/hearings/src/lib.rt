@@ -1,4 +1,7 @@
 // Hearings files: what was heard, struck and asked for, as bytes, and the text that answers it.
+
+#![tactic(auto)]
+
 mod actions;
 mod houses;
 mod items;

@@ -1,4 +1,7 @@
 // The codes of the house: those in which the probes send their records. None of the makings can fail.
+
+#![tactic(auto)]
+
 mod binary;
 mod brine;
 mod header;

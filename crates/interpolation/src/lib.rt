@@ -1,4 +1,7 @@
 // List recovery by interpolation: a curve through all pairs, and a walk that finds the polynomials on it. In fixed memory.
+
+#![tactic(auto)]
+
 mod curve;
 mod fitting;
 mod koetter;

@@ -4,6 +4,9 @@
 //     hear 0 1
 //     strike 9
 //     list 4
+
+#![tactic(auto)]
+
 mod codes;
 mod task;
 

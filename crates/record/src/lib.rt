@@ -1,4 +1,7 @@
 // The record of the letters heard, over any code, and whole sequences of its calls.
+
+#![tactic(auto)]
+
 mod calls;
 mod marking;
 mod recording;

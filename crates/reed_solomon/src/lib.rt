@@ -1,4 +1,7 @@
 // Reed-Solomon codes over any field.
+
+#![tactic(auto)]
+
 mod code;
 mod gathering;
 mod laws;

@@ -1,4 +1,7 @@
 // Lists against brute force over all messages, a published word, and a fitting used alone, through the public calls. Tests only.
+
+#![tactic(auto)]
+
 #[cfg(test)]
 mod brute_force;
 #[cfg(test)]
