@@ -30,7 +30,7 @@ module _ (F : Meaning) (L : Laws F) where
   plus x y = record { code = F.sum x.code y.code; below = L.sum_below x.code y.code }
 
   minus : Element F.size → Element F.size → Element F.size
-  minus x y = record { code = F.difference x.code y.code; below = L.difference_Below x.code y.code }
+  minus x y = record { code = F.difference x.code y.code; below = L.difference_below x.code y.code }
 
   by : Element F.size → Element F.size → Element F.size
   by x y = record { code = F.product x.code y.code; below = L.product_below x.code y.code }
@@ -90,7 +90,7 @@ module _ (F : Meaning) (L : Laws F) where
 
   pub decode_difference : (a b : ℕ) → decode (F.difference a b) ≡ field.ring.ops.sub (decode a) (decode b)
   unfolding decode ring field minus
-  decode_difference a b = same _ _ (read_below F.size _ (L.difference_Below a b) ∙ L.difference_reads a b)
+  decode_difference a b = same _ _ (read_below F.size _ (L.difference_below a b) ∙ L.difference_reads a b)
 
   pub decode_inverse : (a : ℕ) → decode (F.inverse a) ≡ field.inv (decode a)
   unfolding decode field over

@@ -45,7 +45,7 @@ module _ (F : Field) where
     cancel : (a b : ℕ) → a < F.size → b < F.size → F.sum a b ≡ b → a ≡ 0
     cancel a b ha hb e =
         let m = F.difference 0 b in
-        let hm = L.difference_Below 0 b in
+        let hm = L.difference_below 0 b in
         let z : F.sum b m ≡ 0 = L.sum_comm b m hb hm ∙ L.difference_sum 0 b zero_lt hb in
         sym (L.sum_zero a ha) ∙ ap (F.sum a) (sym z) ∙ sym (L.sum_assoc a b m ha hb hm) ∙ ap (λ y. F.sum y m) e ∙ z
 
@@ -64,7 +64,7 @@ module _ (F : Field) where
     minus_row zero (y ∷ ys) (x ∷ xs) ey ex = absurd (omega arith)
     minus_row (suc k) (y ∷ ys) (x ∷ xs) ey ex =
         let r = minus_row k ys xs (omega arith) (omega arith) in
-        (ap suc r.0, and_from _ _ (lt-ltb _ F.size (L.difference_Below y x)) r.1)
+        (ap suc r.0, and_from _ _ (lt-ltb _ F.size (L.difference_below y x)) r.1)
 
     -- where the difference is zero, the messages are equal
     pub minus_blank : (ys xs : List ℕ) → length ys ≡ length xs → Below ys → Below xs → blank (minus ys xs) ≡ true → ys ≡ xs
@@ -92,7 +92,7 @@ module _ (F : Field) where
           let ly = ltb-true y F.size p.0 in
           let lx = ltb-true x F.size q.0 in
           swap _ _ _ _ (L.product_below _ _) (sum_below column (suc i) (minus ys xs)) (L.product_below _ _) (sum_below column (suc i) xs)
-          ∙ ap₂ F.sum (right _ x (column i) (L.difference_Below y x) lx (fits i) ∙ ap (λ z. F.product z (column i)) (L.difference_sum y x ly lx)) (linear (suc i) ys xs (omega arith) p.1 q.1)
+          ∙ ap₂ F.sum (right _ x (column i) (L.difference_below y x) lx (fits i) ∙ ap (λ z. F.product z (column i)) (L.difference_sum y x ly lx)) (linear (suc i) ys xs (omega arith) p.1 q.1)
 
       -- where the sums agree, the difference's is zero
       pub agree_zero : (ys xs : List ℕ) → length ys ≡ length xs → Below ys → Below xs → sum_rows F column 0 ys ≡ sum_rows F column 0 xs → sum_rows F column 0 (minus ys xs) ≡ 0

@@ -24,7 +24,7 @@ module _ (F : Meaning) (L : Laws F) where
       zero_code F L _ (L.product_below a 0) (decode_product F L a 0 ∙ ap ((P F L).mul (decode F L a)) (decode_zero F L) ∙ mul_zero (field F L).ring (decode F L a))
 
   pub difference_zero : F.difference 0 0 ≡ 0
-  difference_zero = sym (L.sum_zero _ (L.difference_Below 0 0)) ∙ L.difference_sum 0 0 (some F L) (some F L)
+  difference_zero = sym (L.sum_zero _ (L.difference_below 0 0)) ∙ L.difference_sum 0 0 (some F L) (some F L)
 
   sum_below : (n : ℕ) (f : ℕ → ℕ) → sum (codes F) n f < F.size
   unfolding sum

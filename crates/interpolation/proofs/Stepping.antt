@@ -28,7 +28,7 @@ module _ (F : Meaning) (L : Laws F) where
         Changed v D rows (mixed_cell F d l e g) l l' → Same columns rows (table F columns l') (mix (codes F) d (table F columns l) e (table F columns g))
     unfolding mix mixed_cell
     mixed_same d e g low low' c i j hi hj = elim (dec_lt i (width v D j)) [
-      | yes b ↦ ap (read F.size) (c.inside i j hj b) ∙ read_below F.size _ (L.difference_Below _ _) ∙ ap₂ (λ x y. F.difference x y) (product_read F L d _) (product_read F L e _)
+      | yes b ↦ ap (read F.size) (c.inside i j hj b) ∙ read_below F.size _ (L.difference_below _ _) ∙ ap₂ (λ x y. F.difference x y) (product_read F L d _) (product_read F L e _)
       | no b ↦ ap (read F.size) (c.outside i j hi hj (λ _. omega arith)) ∙ low i j hi hj (omega arith)
           ∙ sym (nothing d e _ _ (low i j hi hj (omega arith)) (low' i j hi hj (omega arith)))
     ]
@@ -38,7 +38,7 @@ module _ (F : Meaning) (L : Laws F) where
         Changed v D rows (lifted_cell F a l) l l' → Same columns rows (table F columns l') (linear (codes F) a (table F columns l))
     unfolding linear lifted_cell up
     lifted_same a low c i j hi hj = elim (dec_lt i (width v D j)) [
-      | yes b ↦ ap (read F.size) (c.inside i j hj b) ∙ read_below F.size _ (L.difference_Below _ _) ∙ ap (F.difference _) (product_read F L a _) ∙ shifted i
+      | yes b ↦ ap (read F.size) (c.inside i j hj b) ∙ read_below F.size _ (L.difference_below _ _) ∙ ap (F.difference _) (product_read F L a _) ∙ shifted i
       | no b ↦ ap (read F.size) (c.outside i j hi hj (λ _. omega arith)) ∙ low i j hi hj (omega arith)
           ∙ sym (ap₂ (λ x y. F.difference x y) (gone i hi (omega arith)) (ap (F.product a) (low i j hi hj (omega arith)) ∙ product_zero F L a) ∙ difference_zero F L)
     ]

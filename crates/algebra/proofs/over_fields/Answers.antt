@@ -6,5 +6,5 @@ use Rattle.algebra.proofs.over_fields.Goals as goal
 
 pub returns : goal.returns
 returns g c =
-    let l = g.K-as-Scalar.laws in
+    let l = g.K.Scalar.laws in
     record { vanishing = vanishing l; few = few l; unique = unique l; step = step_keeps l; ends = run_ends l; exists = interpolates l; walk = walk_meets l }

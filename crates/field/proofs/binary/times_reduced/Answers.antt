@@ -16,8 +16,8 @@ next m g i a b r x pos most e h =
     let half : b / 2 ^ (i - 1) / 2 ≡ b / 2 ^ i = shr-shr b (i - 1) 1 ∙ ap (λ n. b / 2 ^ n) up in
     rw one (ap (bit_xor (b / 2 ^ (i - 1) % 2 * a)) (h ∙ ap (times_x m g) (e ∙ ap (times m g (m - i) a) (sym half))))
 
-pub overflow-mul-r : goal.overflow-mul-r
-overflow-mul-r c = omega (arith, bit_le (c.args.b / 2 ^ (c.loop-i.i - 1)) c.args.a)
+pub overflow_mul-r : goal.overflow_mul-r
+overflow_mul-r c = omega (arith, bit_le (c.args.b / 2 ^ (c.loop-i.i - 1)) c.args.a)
 
 pub times-x-requires : goal.times-x-requires
 times-x-requires c =
@@ -33,8 +33,8 @@ loop-i-preserved c =
     c.loop-i-test.true c.loop-i.auto.i c.loop-i.invariant
     (c.times_x.ensures ∙ ap (λ g. times_x c.args.m g c.loop-i.r) c.modulus-of-g.ensures.value)
 
-pub overflow-cast-result : goal.overflow-cast-result
-overflow-cast-result c =
+pub overflow_cast-result : goal.overflow_cast-result
+overflow_cast-result c =
     omega (arith, c.loop-i.invariant, step_below c.args.m c.requires.listed (c.args.m - c.loop-i.i) c.args.a (c.args.b / 2 ^ c.loop-i.i) c.requires.left, byte_size c.args.m c.requires.listed)
 
 pub returns : goal.returns

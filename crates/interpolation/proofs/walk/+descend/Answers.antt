@@ -36,8 +36,8 @@ loop-root-init g t c =
       λ d _. refl,
     )
 
-pub overflow-cast-prefix : goal.overflow-cast-prefix
-overflow-cast-prefix g t c = omega (arith, c.size-root-end.ensures, c.loop-root-test.true, (g.met.F.Field.lawful c.args.field.now).small)
+pub overflow_cast-prefix : goal.overflow_cast-prefix
+overflow_cast-prefix g t c = omega (arith, c.size-root-end.ensures, c.loop-root-test.true, (g.met.F.Field.lawful c.args.field.now).small)
 
 pub step-requires : goal.step-requires
 step-requires g t c =

@@ -2,8 +2,8 @@ use Rattle.std.proofs.Common.{◌+◌, ◌-◌, ◌/◌, ◌<◌, ◌≤◌, mul
 use native.Mathlib.Nat.{lt-mul-div-succ}
 use Rattle.interpolation.proofs.walk.rows_used.Goals as goal
 
-pub overflow-add-degree : goal.overflow-add-degree
-overflow-add-degree c = omega (arith, div-le_self c.args.degree (c.args.k - 1))
+pub overflow_add-degree : goal.overflow_add-degree
+overflow_add-degree c = omega (arith, div-le_self c.args.degree (c.args.k - 1))
 
 pub returns-else-k-eq1 : goal.returns-else-k-eq1
 returns-else-k-eq1 c =
