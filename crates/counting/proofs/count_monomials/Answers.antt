@@ -16,7 +16,7 @@ pub loop-j-init : goal.loop-j-init
 loop-j-init c = (sym (monomials_none c.args.v c.args.d), omega arith)
 
 pub loop-j-preserved : goal.loop-j-preserved
-loop-j-preserved c = next c.args.v c.args.d c.loop-j.j c.loop-j.sum _ _ c.requires c.loop-j.invariant.0 c.loop-j.invariant.1 c.saturating-mul.ensures c.saturating-sub-sum.ensures
+loop-j-preserved c = next c.args.v c.args.d c.loop-j.j c.loop-j.sum _ _ c.requires c.loop-j.invariant.0 c.loop-j.invariant.1 c.saturating_mul.ensures c.saturating_sub-sum.ensures
 
 pub returns : goal.returns
 returns c =

@@ -13,16 +13,16 @@ use Rattle.figures.proofs.figures_hold.Goals as goal
 pub returns : goal.returns
 unfolding listing messages span gen_word gen_distance word_at least_reach suits monomials total tally size
 returns c = record {
-  product-over-16 = refl;
-  product-over-256 = refl;
-  inverse-over-11 = refl;
-  slab-list = refl;
-  slab-least = refl;
-  five-at-three = refl;
-  five-at-four = refl;
-  five-at-two = refl;
-  slab-outer-least = refl;
-  header-least = refl;
-  brine-inner-least = refl;
-  brine-outer-least = refl;
+  product_over_16 = refl;
+  product_over_256 = refl;
+  inverse_over_11 = refl;
+  slab_list = refl;
+  slab_least = refl;
+  five_at_three = refl;
+  five_at_four = refl;
+  five_at_two = refl;
+  slab_outer_least = refl;
+  header_least = refl;
+  brine_inner_least = refl;
+  brine_outer_least = refl;
 }

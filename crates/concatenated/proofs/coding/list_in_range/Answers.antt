@@ -6,8 +6,8 @@ use Rattle.concatenated.specs.Law.{blocks_of, listable}
 use Rattle.concatenated.proofs.Listed.{says_below, says_above, says_scaled, above_place}
 use Rattle.concatenated.proofs.coding.list_in_range.Goals as goal
 
-pub lift-blocks-requires : goal.lift-blocks-requires
-lift-blocks-requires g c =
+pub lift_blocks-requires : goal.lift_blocks-requires
+lift_blocks-requires g c =
     let mo = g.O.Code.means c.args.outer.now in
     let mi = g.I.Code.means c.args.inner.now in
     let ro = g.met.O.Code.lawful c.args.outer.now c.requires.outer in
@@ -24,14 +24,14 @@ pub returns-in-Err : goal.returns-in-Err
 returns-in-Err g c =
     let ro = g.met.O.Code.lawful c.args.outer.now c.requires.outer in
     let ri = g.met.I.Code.lawful c.args.inner.now c.requires.inner in
-    let r = says_below ro ri c.requires.asked (length c.args.buf.now) (sheet_of c.lift-blocks.new.above) _ (cut _ c.places.ensures ro.sizes.n_high) c.in-Err.r c.in-Err.ensures in
+    let r = says_below ro ri c.requires.asked (length c.args.buf.now) (sheet_of c.lift_blocks.new.above) _ (cut _ c.places.ensures ro.sizes.n_high) c.in-Err.r c.in-Err.ensures in
     record { answer = c.refuse.ensures.answer ∙ r.answer; buffer = c.refuse.ensures.buffer ∙ r.buffer }
 
 pub scaled-requires : goal.scaled-requires
 scaled-requires g c =
     let ro = g.met.O.Code.lawful c.args.outer.now c.requires.outer in
     let ri = g.met.I.Code.lawful c.args.inner.now c.requires.inner in
-    let p = above_place ro ri c.requires.asked (length c.args.buf.now) (sheet_of c.lift-blocks.new.above) _ (cut _ c.places.ensures ro.sizes.n_high) c.in-default.ensures c.in-Reach.r (ap Err (sym c.in-Reach.is) ∙ c.in-Err-list.ensures.answer) in
+    let p = above_place ro ri c.requires.asked (length c.args.buf.now) (sheet_of c.lift_blocks.new.above) _ (cut _ c.places.ensures ro.sizes.n_high) c.in-default.ensures c.in-Reach.r (ap Err (sym c.in-Reach.is) ∙ c.in-Err-list.ensures.answer) in
     record { small = omega (arith, c.places-in-Reach.ensures, ri.sizes.n_high); fits = subst (λ n. c.in-Reach.r.place * n < 2 ^ 16) (sym c.places-in-Reach.ensures) (omega arith) }
 
 pub returns-in-Ok : goal.returns-in-Ok
@@ -39,7 +39,7 @@ returns-in-Ok g c =
     let ro = g.met.O.Code.lawful c.args.outer.now c.requires.outer in
     let ri = g.met.I.Code.lawful c.args.inner.now c.requires.inner in
     let e = c.in-Ok.ensures in
-    let r = says_above ro ri c.requires.asked (length c.args.buf.now) (sheet_of c.lift-blocks.new.above) _ (cut _ c.places.ensures ro.sizes.n_high) c.in-default.ensures (Ok c.in-Ok.count) c.list.new.buf e.answer e.buffer (λ x q. let z : ◌≡◌ {A = ℕ} 0 1 = cc in omega arith) in
+    let r = says_above ro ri c.requires.asked (length c.args.buf.now) (sheet_of c.lift_blocks.new.above) _ (cut _ c.places.ensures ro.sizes.n_high) c.in-default.ensures (Ok c.in-Ok.count) c.list.new.buf e.answer e.buffer (λ x q. let z : ◌≡◌ {A = ℕ} 0 1 = cc in omega arith) in
     record { answer = r.answer; buffer = r.buffer }
 
 pub returns-in-Reach : goal.returns-in-Reach
@@ -48,7 +48,7 @@ returns-in-Reach g c =
     let ri = g.met.I.Code.lawful c.args.inner.now c.requires.inner in
     let e = c.in-Err-list.ensures in
     let place = c.scaled.ensures.place ∙ ap (λ n. c.in-Reach.r.place * n) c.places-in-Reach.ensures in
-    let r = says_scaled ro ri c.requires.asked (length c.args.buf.now) (sheet_of c.lift-blocks.new.above) _ (cut _ c.places.ensures ro.sizes.n_high) c.in-default.ensures c.in-Reach.r c.scaled.result c.list.new.buf (ap Err (sym c.in-Reach.is) ∙ e.answer) e.buffer c.scaled.ensures.level place in
+    let r = says_scaled ro ri c.requires.asked (length c.args.buf.now) (sheet_of c.lift_blocks.new.above) _ (cut _ c.places.ensures ro.sizes.n_high) c.in-default.ensures c.in-Reach.r c.scaled.result c.list.new.buf (ap Err (sym c.in-Reach.is) ∙ e.answer) e.buffer c.scaled.ensures.level place in
     record { answer = r.answer; buffer = r.buffer }
 
 pub returns-in-default-f : goal.returns-in-default-f
@@ -56,5 +56,5 @@ returns-in-default-f g c =
     let ro = g.met.O.Code.lawful c.args.outer.now c.requires.outer in
     let ri = g.met.I.Code.lawful c.args.inner.now c.requires.inner in
     let e = c.in-Err-list.ensures in
-    let r = says_above ro ri c.requires.asked (length c.args.buf.now) (sheet_of c.lift-blocks.new.above) _ (cut _ c.places.ensures ro.sizes.n_high) c.in-default.ensures (Err c.in-Err-list.f) c.list.new.buf e.answer e.buffer (λ x q. c.in-default-f.not-Reach x (cc)) in
+    let r = says_above ro ri c.requires.asked (length c.args.buf.now) (sheet_of c.lift_blocks.new.above) _ (cut _ c.places.ensures ro.sizes.n_high) c.in-default.ensures (Err c.in-Err-list.f) c.list.new.buf e.answer e.buffer (λ x q. c.in-default-f.not-Reach x (cc)) in
     record { answer = r.answer; buffer = r.buffer }

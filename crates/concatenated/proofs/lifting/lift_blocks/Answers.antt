@@ -11,8 +11,8 @@ use Rattle.concatenated.proofs.lifting.lift_blocks.Goals as goal
 pub loop-b-init : goal.loop-b-init
 loop-b-init g c = risen_none (g.I.Code.means c.args.inner.now) c.args.agreement (sheet_of c.args.sheet.now) _ _
 
-pub lift-at-requires : goal.lift-at-requires
-lift-at-requires g c =
+pub lift_at-requires : goal.lift_at-requires
+lift_at-requires g c =
     let mi = g.I.Code.means c.args.inner.now in
     let sheet = c.args.sheet.now in
     let b = c.loop-b.b in

@@ -19,19 +19,19 @@ next m g i a b r x pos most e h =
 pub overflow_mul-r : goal.overflow_mul-r
 overflow_mul-r c = omega (arith, bit_le (c.args.b / 2 ^ (c.loop-i.i - 1)) c.args.a)
 
-pub times-x-requires : goal.times-x-requires
-times-x-requires c =
+pub times_x-requires : goal.times_x-requires
+times_x-requires c =
     record {
       listed = c.requires.listed;
       below = subst (λ n. n < 2 ^ c.args.m) (sym c.loop-i.invariant) (step_below c.args.m c.requires.listed _ _ _ c.requires.left);
-      small = c.modulus-of-g.ensures.small;
+      small = c.modulus_of-g.ensures.small;
     }
 
 pub loop-i-preserved : goal.loop-i-preserved
 loop-i-preserved c =
     next c.args.m (modulus c.args.m) c.loop-i.i c.args.a c.args.b c.loop-i.r c.times_x.result
     c.loop-i-test.true c.loop-i.auto.i c.loop-i.invariant
-    (c.times_x.ensures ∙ ap (λ g. times_x c.args.m g c.loop-i.r) c.modulus-of-g.ensures.value)
+    (c.times_x.ensures ∙ ap (λ g. times_x c.args.m g c.loop-i.r) c.modulus_of-g.ensures.value)
 
 pub overflow_cast-result : goal.overflow_cast-result
 overflow_cast-result c =

@@ -7,6 +7,6 @@ pub returns : goal.returns
 returns c =
     let k : known (get_or c.args.left.now 0 0) ≡ true = search rules in
     record {
-      same = whole c.args.left.now c.body-length-end.result _ k c.body-length-end.ensures (omega arith) c.item-of.ensures.same;
-      bodied = c.item-of.ensures.bodied;
+      same = whole c.args.left.now c.body_length-end.result _ k c.body_length-end.ensures (omega arith) c.item_of.ensures.same;
+      bodied = c.item_of.ensures.bodied;
     }

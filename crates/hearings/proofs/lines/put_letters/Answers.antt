@@ -10,7 +10,7 @@ loop-i-init c = (wrote_none c.args.out.now c.args.at, omega arith)
 
 pub loop-i-preserved : goal.loop-i-preserved
 loop-i-preserved c = (
-  wrote_as (sym (letters_more c.args.letters.now c.loop-i.i c.loop-i-test.true)) (wrote_both c.loop-i.invariant.0 c.put-letter-end.ensures.wrote),
+  wrote_as (sym (letters_more c.args.letters.now c.loop-i.i c.loop-i-test.true)) (wrote_both c.loop-i.invariant.0 c.put_letter-end.ensures.wrote),
   omega arith,
 )
 

@@ -4,6 +4,6 @@ use Rattle.hearings.proofs.lines.put_list.Goals as goal
 
 pub returns : goal.returns
 returns c = record {
-  wrote = wrote_both (wrote_both c.put-field-t-end.ensures.wrote (wrote_both c.put-field-count-end.ensures.wrote c.end-line-line-end.ensures)) c.put-messages.ensures.wrote;
-  bound = omega (arith, c.end-line-line-end.ensures.ends);
+  wrote = wrote_both (wrote_both c.put_field-t_end.ensures.wrote (wrote_both c.put_field-count_end.ensures.wrote c.end_line-line_end.ensures)) c.put_messages.ensures.wrote;
+  bound = omega (arith, c.end_line-line_end.ensures.ends);
 }

@@ -6,9 +6,9 @@ use Rattle.hearings.proofs.lines.put_refusal.Goals as goal
 pub returns : goal.returns
 returns c = record {
   wrote =
-      wrote_both (wrote_as (ap (field (codes "refused ")) c.number.ensures) c.put-field-number-end.ensures.wrote)
-      (wrote_both c.put-field-offset-end.ensures.wrote
-      (wrote_both c.put-where-where-end.ensures.wrote
-      c.end-line.ensures));
-  bound = omega (arith, c.end-line.ensures.ends);
+      wrote_both (wrote_as (ap (field (codes "refused ")) c.number.ensures) c.put_field-number_end.ensures.wrote)
+      (wrote_both c.put_field-offset_end.ensures.wrote
+      (wrote_both c.put_where-where_end.ensures.wrote
+      c.end_line.ensures));
+  bound = omega (arith, c.end_line.ensures.ends);
 }

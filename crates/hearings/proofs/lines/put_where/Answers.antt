@@ -5,6 +5,6 @@ use Rattle.hearings.proofs.lines.put_where.Goals as goal
 
 pub returns-in-Reach : goal.returns-in-Reach
 returns-in-Reach c = record {
-  wrote = wrote_as (ap where_out (sym c.in-Reach.is)) (wrote_both c.put-field-end.ensures.wrote c.put-field.ensures.wrote);
+  wrote = wrote_as (ap where_out (sym c.in-Reach.is)) (wrote_both c.put_field-end.ensures.wrote c.put_field.ensures.wrote);
   bound = omega arith;
 }

@@ -17,5 +17,5 @@ pub returns : goal.returns
 returns t c =
     let n = c.args.n in
     let fit : n < 2 ^ 64 = omega arith in
-    let wrote = wrote_as (sym (decimal_step n c.if-n-lt10.false fit)) (wrote_both c.put-number-front.ensures.wrote c.put-2.ensures) in
+    let wrote = wrote_as (sym (decimal_step n c.if-n-lt10.false fit)) (wrote_both c.put_number-front.ensures.wrote c.put-2.ensures) in
     record { wrote = wrote; bound = omega (arith, wrote.ends, few n fit) }

@@ -4,6 +4,6 @@ use Rattle.hearings.proofs.writing.put_field.Goals as goal
 
 pub returns : goal.returns
 returns c = record {
-  wrote = wrote_both c.put-bytes-end.ensures c.put-number.ensures.wrote;
-  bound = omega (arith, c.put-bytes-end.ensures.ends);
+  wrote = wrote_both c.put_bytes-end.ensures c.put_number.ensures.wrote;
+  bound = omega (arith, c.put_bytes-end.ensures.ends);
 }

@@ -17,15 +17,15 @@ joins_well = refl
 pub unreachable-requires : goal.unreachable-requires
 unreachable-requires c =
     c.in-default.not-Ok _
-    (joined (rs.meaning_of binary_of) (rs.meaning_of binary_of) c.binary-code-outer.result c.binary-code-inner.result 4 brine_outer brine_inner
-    c.new.result c.new.ensures.answer c.binary-code-outer.ensures.means c.binary-code-inner.ensures.means joins_well)
+    (joined (rs.meaning_of binary_of) (rs.meaning_of binary_of) c.binary_code-outer.result c.binary_code-inner.result 4 brine_outer brine_inner
+    c.new.result c.new.ensures.answer c.binary_code-outer.ensures.means c.binary_code-inner.ensures.means joins_well)
 
 pub returns : goal.returns
 returns c = record {
-  means = concatenation (rs.meaning_of binary_of) (rs.meaning_of binary_of) c.binary-code-outer.result c.binary-code-inner.result 4 brine_outer brine_inner
+  means = concatenation (rs.meaning_of binary_of) (rs.meaning_of binary_of) c.binary_code-outer.result c.binary_code-inner.result 4 brine_outer brine_inner
       c.new.result c.in-Ok.code
-      (joined (rs.meaning_of binary_of) (rs.meaning_of binary_of) c.binary-code-outer.result c.binary-code-inner.result 4 brine_outer brine_inner
-      c.new.result c.new.ensures.answer c.binary-code-outer.ensures.means c.binary-code-inner.ensures.means joins_well)
-      c.binary-code-outer.ensures.means c.binary-code-inner.ensures.means c.in-Ok.is;
+      (joined (rs.meaning_of binary_of) (rs.meaning_of binary_of) c.binary_code-outer.result c.binary_code-inner.result 4 brine_outer brine_inner
+      c.new.result c.new.ensures.answer c.binary_code-outer.ensures.means c.binary_code-inner.ensures.means joins_well)
+      c.binary_code-outer.ensures.means c.binary_code-inner.ensures.means c.in-Ok.is;
   made = c.in-Ok.ensures.made;
 }

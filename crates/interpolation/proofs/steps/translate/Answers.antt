@@ -10,12 +10,12 @@ loop-k-preserved g c =
     let k = c.loop-k.k in
     let old = c.args.curve.now.cells in
     let mid = c.loop-k.curve.cells in
-    let new = c.mix-rows.new.curve.cells in
+    let new = c.mix_rows.new.curve.cells in
     let a : k ≡ suc (k - 1) = omega arith in
     let b : suc (Y - k) ≡ Y - (k - 1) = omega arith in
     subst (λ n. Part F X c.args.root old n (k - 1) new) b
     (part_next F (g.met.F.Field.lawful c.args.field.now) c.args.region c.args.root old mid new (Y - k) (k - 1) c.requires.inside.wide (omega arith) c.requires.light
-    (subst (λ k'. Part F X c.args.root old (Y - k) k' mid) a c.loop-k.invariant) c.mix-rows.ensures)
+    (subst (λ k'. Part F X c.args.root old (Y - k) k' mid) a c.loop-k.invariant) c.mix_rows.ensures)
 
 pub returns : goal.returns
 returns g c =

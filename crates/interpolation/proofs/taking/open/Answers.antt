@@ -16,6 +16,6 @@ in_limits k t e =
 
 pub invariant-of-result : goal.invariant-of-result
 invariant-of-result c =
-    let s = in_limits c.args.k c.args.t (sym c.if-not-is-shaped.ensures) in
+    let s = in_limits c.args.k c.args.t (sym c.if-not-is_shaped.ensures) in
     let found = smallest_passes (suits limits (c.args.k - 1) c.args.t c.args.limit) 1 4 c.in-Some.r (sym c.in-Some.ensures) in
     (s.0, (s.1, (s.2, (s.3, (few_pairs (c.args.k - 1) c.args.t c.args.limit c.in-Some.r found.0 found.1, (found.1, (omega (arith, found.2), (found.0, tt))))))))

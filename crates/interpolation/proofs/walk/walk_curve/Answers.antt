@@ -8,8 +8,8 @@ pub descend-requires : goal.descend-requires
 descend-requires g c =
     let F = g.F.Field.means c.args.field.now in
     record {
-      descent = start F (g.met.F.Field.lawful c.args.field.now) c.args.k c.args.t c.args.degree c.rows-used.result c.args.xs.now c.args.ys.now c.args.curve.now.cells
-          c.requires.some c.requires.small c.requires.within c.requires.pairs c.requires.light c.requires.covers c.rows-used.ensures.most c.rows-used.ensures.past;
+      descent = start F (g.met.F.Field.lawful c.args.field.now) c.args.k c.args.t c.args.degree c.rows_used.result c.args.xs.now c.args.ys.now c.args.curve.now.cells
+          c.requires.some c.requires.small c.requires.within c.requires.pairs c.requires.light c.requires.covers c.rows_used.ensures.most c.rows_used.ensures.past;
       room = record { bytes = omega arith; count = omega arith };
     }
 

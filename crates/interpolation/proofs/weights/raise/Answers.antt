@@ -14,7 +14,7 @@ loop-i-preserved g c =
           (λ k h. let ne : k ≢ i = omega arith in rw get_or-set_other (c.loop-i.invariant.0 k h))
           (rw get_or-set_same c.loop-i.invariant.2),
       (λ k h. let ne : k ≢ i = omega arith in rw get_or-set_other (c.loop-i.invariant.1 k (omega arith))),
-      c.next-weight-last.ensures
+      c.next_weight-last.ensures
           ∙ ap₂ (λ x y. F.sum (F.product c.args.a x) y) c.loop-i.invariant.2 (c.loop-i.invariant.1 i (omega arith))
           ∙ raised_more F c.args.a c.args.row.now i,
     )

@@ -13,19 +13,19 @@ loop-t-init c = λ u lo hi.
 pub loop-t-preserved : goal.loop-t-preserved
 loop-t-preserved c = λ u lo hi.
     ⊎_elim
-    (λ e. ap (λ z. in_reach limits (c.args.k - 1) z c.args.n) e ∙ sym (ap is_some c.counting.ensures) ∙ c.if-is-none.ensures)
+    (λ e. ap (λ z. in_reach limits (c.args.k - 1) z c.args.n) e ∙ sym (ap is_some c.counting.ensures) ∙ c.if-is_none.ensures)
     (λ ne. c.loop-t.invariant u (omega arith) hi)
     (cases_eq u (c.loop-t.t - 1))
 
-pub returns-then-is-none : goal.returns-then-is-none
-returns-then-is-none c =
+pub returns-then-is_none : goal.returns-then-is_none
+returns-then-is_none c =
     let t = c.loop-t.t in
     let k = c.loop-t.auto.t in
     let tk = c.loop-t-test.true in
     let back : c.loop-t.t - 1 + 1 ≡ c.loop-t.t = omega arith in
     back ∙
     least_here limits c.args.n c.args.k c.loop-t.t (omega arith) (omega arith) c.loop-t.invariant
-    (λ u e lo. ap (λ z. in_reach limits (c.args.k - 1) z c.args.n) (let z : u ≡ c.loop-t.t - 1 = omega arith in z) ∙ sym (ap is_some c.counting.ensures) ∙ c.if-is-none.ensures)
+    (λ u e lo. ap (λ z. in_reach limits (c.args.k - 1) z c.args.n) (let z : u ≡ c.loop-t.t - 1 = omega arith in z) ∙ sym (ap is_some c.counting.ensures) ∙ c.if-is_none.ensures)
 
 pub returns : goal.returns
 returns c =

@@ -19,11 +19,11 @@ loop-i-init g c = (
 pub loop-i-preserved : goal.loop-i-preserved
 loop-i-preserved g c = (
   fed_place (g.F.Field.means c.args.fitting.now.field.now) c.args.fitting.now.plan.limit c.args.sheet.now c.loop-i.i (record { words = [] }) _ _ _ c.loop-i-test.true c.loop-i.invariant.0
-      (c.offer-place.ensures.held
+      (c.offer_place.ensures.held
       ∙ ap₂ (λ plan fld. fed (g.F.Field.means fld) plan.limit (points_of c.loop-i.fitting.pairs, values_of c.loop-i.fitting.pairs) (at_point c.loop-i.i (letters (stands (get_or c.args.sheet.now c.loop-i.i (record { words = [] }))) 256))) c.loop-i.invariant.1 c.loop-i.invariant.2),
-  c.offer-place.ensures.plan ∙ c.loop-i.invariant.1,
-  c.offer-place.ensures.field ∙ c.loop-i.invariant.2,
-  c.offer-place.ensures.made,
+  c.offer_place.ensures.plan ∙ c.loop-i.invariant.1,
+  c.offer_place.ensures.field ∙ c.loop-i.invariant.2,
+  c.offer_place.ensures.made,
 )
 
 pub returns : goal.returns

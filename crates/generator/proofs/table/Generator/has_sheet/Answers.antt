@@ -8,5 +8,5 @@ use Rattle.generator.proofs.table.Generator.has_sheet.Goals as goal
 pub returns : goal.returns
 unfolding is_sheet
 returns g c =
-    c.is-sheet.ensures
+    c.is_sheet.ensures
     ∙ ap₂ (λ l q. eqb l c.args.self.now.n && every (below q 256) (sheet_of c.args.sheet.now)) (sym (length-map c.args.sheet.now _)) c.size.ensures

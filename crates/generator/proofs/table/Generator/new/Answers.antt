@@ -5,7 +5,7 @@ use Rattle.generator.proofs.Making.{rows_fit, table_made}
 use Rattle.generator.proofs.table.Generator.new.Goals as goal
 
 pub pad-table-requires : goal.pad-table-requires
-pad-table-requires g c = rows_fit _ c.args.n c.args.k c.args.rows.now (sym c.if-not-is-shaped.ensures) (sym c.if-not-is-row.ensures)
+pad-table-requires g c = rows_fit _ c.args.n c.args.k c.args.rows.now (sym c.if-not-is_shaped.ensures) (sym c.if-not-is_row.ensures)
 
 pub returns : goal.returns
 returns g c =
@@ -15,7 +15,7 @@ returns g c =
       answer = search rules;
       made = subst (λ z. Table (g.F.Field.means c.args.field) z c.args.n c.args.k) (sym c.pad-table.ensures)
           (table_made (g.F.Field.means c.args.field) c.args.rows.now c.args.n c.args.k (omega arith)
-          (ap (λ z. gen_shaped z c.args.n c.args.k) (sym e) ∙ sym c.if-not-is-shaped.ensures)
-          (ap (λ z. is_row (c.args.k * c.args.n) z c.args.rows.now) (sym e) ∙ sym c.if-not-is-row.ensures)
-          (sym c.if-not-is-identity.ensures));
+          (ap (λ z. gen_shaped z c.args.n c.args.k) (sym e) ∙ sym c.if-not-is_shaped.ensures)
+          (ap (λ z. is_row (c.args.k * c.args.n) z c.args.rows.now) (sym e) ∙ sym c.if-not-is_row.ensures)
+          (sym c.if-not-is_identity.ensures));
     }

@@ -4,8 +4,8 @@ use Rattle.hearings.proofs.Wrote.{wrote_as}
 use Rattle.hearings.proofs.Served.{says_fits, some_letter, fits_as, lines_as}
 use Rattle.hearings.proofs.houses.House.tell.Goals as goal
 
-pub put-answer-end-requires : goal.put-answer-end-requires
-put-answer-end-requires c =
+pub put_answer-end-requires : goal.put_answer-end-requires
+put_answer-end-requires c =
     let whole : length c.serve-house.new.buffer ≡ 256 = omega arith in
     record {
       low = c.requires.low;
@@ -19,6 +19,6 @@ returns c = record {
   sound = c.serve-house.ensures.sound;
   same = c.serve-house.ensures.same;
   after = c.serve-house.ensures.after;
-  wrote = wrote_as (lines_as c.args.offset c.args.call c.dimension-k.ensures c.serve-house.ensures.answer c.serve-house.ensures.buffer) c.put-answer-end.ensures.wrote;
-  bound = c.put-answer-end.ensures.bound;
+  wrote = wrote_as (lines_as c.args.offset c.args.call c.dimension-k.ensures c.serve-house.ensures.answer c.serve-house.ensures.buffer) c.put_answer-end.ensures.wrote;
+  bound = c.put_answer-end.ensures.bound;
 }

@@ -9,8 +9,8 @@ use Rattle.interpolation.proofs.Opening.{admitted}
 use Rattle.interpolation.proofs.Recovering.{covers, light, positive}
 use Rattle.interpolation.proofs.fitting.Closed.walk.Goals as goal
 
-pub walk-curve-requires : goal.walk-curve-requires
-walk-curve-requires g c =
+pub walk_curve-requires : goal.walk_curve-requires
+walk_curve-requires g c =
     let F = g.F.Field.means c.args.self.field.now in
     let L = g.met.F.Field.lawful c.args.self.field.now in
     let a = admitted (c.args.self.plan.k - 1) c.args.self.plan.t c.args.self.plan.limit c.args.self.plan.r c.args.self.plan.counted in

@@ -12,6 +12,6 @@ returns g c = record {
   field = search rules;
   made =
       more_gathered (g.F.Field.means c.args.self.now.field.now) c.args.self.now.plan.limit c.size-size.result (points_of c.args.self.now.pairs) (values_of c.args.self.now.pairs)
-      c.args.point c.args.value _ _ c.requires.made c.size-size.ensures (sym c.if-not-is-point.ensures) c.if-value-size.false (sym c.if-has.ensures)
+      c.args.point c.args.value _ _ c.requires.made c.size-size.ensures (sym c.if-not-is_point.ensures) c.if-value-size.false (sym c.if-has.ensures)
       (omega (arith, c.len-held.ensures.value, c.if-held-self.false)) c.push.ensures.points c.push.ensures.values;
 }

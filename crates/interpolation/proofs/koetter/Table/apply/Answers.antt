@@ -25,9 +25,9 @@ loop-j-preserved g c =
       below_more _ _
           (λ k h ne. let q : k ≢ j = omega arith in rw get_or-set_other (c.loop-j.invariant.0 k h ne))
           (λ ne. rw get_or-set_same
-          (subst₂ (λ e x. Taken F c.args.self.now.weight j (at ds p) e (led c.args.self.now.curves p).curve.cells x next) (c.discrepancy-of-other.ensures.other ne) same c.mix.ensures)),
+          (subst₂ (λ e x. Taken F c.args.self.now.weight j (at ds p) e (led c.args.self.now.curves p).curve.cells x next) (c.discrepancy_of_other.ensures.other ne) same c.mix.ensures)),
       (λ k h. let q : k ≢ j = omega arith in get_or-set_other cs j k next blank q ∙ c.loop-j.invariant.1 k (omega arith)),
-      pivot_stays cs j p next _ lt c.loop-j.invariant.2 (λ e. c.mix.ensures.idle (c.discrepancy-of-other.ensures.pivot e)),
+      pivot_stays cs j p next _ lt c.loop-j.invariant.2 (λ e. c.mix.ensures.idle (c.discrepancy_of_other.ensures.pivot e)),
       c.loop-j.invariant.3,
       c.loop-j.invariant.4,
       length-set cs j next ∙ c.loop-j.invariant.5,

@@ -18,10 +18,10 @@ loop-w-preserved g c =
     let F = g.F.Field.means c.args.field.now in
     let ev = c.loop-w.invariant.2 in
     let ed = c.loop-w.invariant.3 in (
-      subst₂ (λ x y. ColumnsMet F x y c.args.r c.args.xs.now c.args.ys.now c.args.t (c.loop-w.w + 1) c.meet-column.new.self.curves) ev ed c.meet-column.ensures.met,
+      subst₂ (λ x y. ColumnsMet F x y c.args.r c.args.xs.now c.args.ys.now c.args.t (c.loop-w.w + 1) c.meet_column.new.self.curves) ev ed c.meet_column.ensures.met,
       (λ i h. rw add-one (c.raise.ensures c.loop-w.w c.loop-w.invariant.1 i h)),
-      c.meet-column.ensures.weight ∙ ev,
-      c.meet-column.ensures.degree ∙ ed,
+      c.meet_column.ensures.weight ∙ ev,
+      c.meet_column.ensures.degree ∙ ed,
       omega arith,
     )
 

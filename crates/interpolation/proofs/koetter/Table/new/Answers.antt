@@ -10,7 +10,7 @@ loop-j-init c = (start_none (record { curve = record { cells = replicate cells 0
 
 pub loop-j-preserved : goal.loop-j-preserved
 loop-j-preserved c = (
-  start_more c.loop-j.j c.loop-j.table.curves _ c.loop-j-test.true c.loop-j.invariant.0 c.put-one.ensures.cells c.put-one.ensures.lead,
+  start_more c.loop-j.j c.loop-j.table.curves _ c.loop-j-test.true c.loop-j.invariant.0 c.put_one.ensures.cells c.put_one.ensures.lead,
   c.loop-j.invariant.1,
   c.loop-j.invariant.2,
 )

@@ -6,7 +6,7 @@ use Rattle.record.proofs.recording.Record.hear.Goals as goal
 pub bounds-self-place : goal.bounds-self-place
 bounds-self-place g c =
     let high = (g.met.C.Code.lawful c.args.self.now.code c.requires.made).sizes.n_high in
-    let t = letter_passes c.args.place c.places.result c.args.letter c.letters.result _ c.in-ok-check-letter.ensures in
+    let t = letter_passes c.args.place c.places.result c.args.letter c.letters.result _ c.in-ok-check_letter.ensures in
     omega (arith, t.0, c.places.ensures)
 
 pub returns : goal.returns
@@ -14,13 +14,13 @@ returns g c =
     let m = g.C.Code.means c.args.self.now.code in
     let marks = c.args.self.now.sheet in
     let high = (g.met.C.Code.lawful c.args.self.now.code c.requires.made).sizes.n_high in
-    let t = letter_passes c.args.place c.places.result c.args.letter c.letters.result _ c.in-ok-check-letter.ensures in
+    let t = letter_passes c.args.place c.places.result c.args.letter c.letters.result _ c.in-ok-check_letter.ensures in
     let lp : c.args.place < m.n = omega (arith, t.0, c.places.ensures) in
     let ll : c.args.letter < m.q = omega (arith, t.1, c.letters.ensures) in
     let long : m.n ≤ length marks = let e : length marks ≡ 240 = search rules in omega arith in
     record {
       made = c.requires.made;
       same = refl;
-      answer = hear_answer m marks c.args.place _ lp long c.args.letter ll c.join-letter.result c.join-letter.ensures.count;
-      after = hear_after m marks c.args.place _ lp long c.args.letter ll c.join-letter.new.marks c.join-letter.ensures.after;
+      answer = hear_answer m marks c.args.place _ lp long c.args.letter ll c.join_letter.result c.join_letter.ensures.count;
+      after = hear_after m marks c.args.place _ lp long c.args.letter ll c.join_letter.new.marks c.join_letter.ensures.after;
     }

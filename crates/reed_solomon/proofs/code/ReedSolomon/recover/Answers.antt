@@ -12,8 +12,8 @@ use Rattle.reed_solomon.specs.Gathered.{pairs_of, fed}
 use Rattle.reed_solomon.proofs.Recovering.{short, places, load_is, held_all, list_same, opens_in_reach, refused_out_of_reach}
 use Rattle.reed_solomon.proofs.code.ReedSolomon.recover.Goals as goal
 
-pub offer-sheet-requires : goal.offer-sheet-requires
-offer-sheet-requires g c = record {
+pub offer_sheet-requires : goal.offer_sheet-requires
+offer_sheet-requires g c = record {
   made = c.new-fitting.ensures.made;
   short =
       ap_le (length-map c.args.sheet.now stands)
@@ -32,15 +32,15 @@ returns-in-Ok g c =
     let s = sheet_of c.args.sheet.now in
     let o = c.in-Ok.ensures in
     let load : c.load.result ≡ _ = load_is F L n k c.requires.made s c.args.t c.requires.whole c.load.result c.load.ensures in
-    let plan : c.close.result.plan ≡ c.in-Ok.plan = c.close.ensures.plan ∙ c.offer-sheet.ensures.plan ∙ c.new-fitting.ensures.plan in
-    let field : c.close.result.field.now ≡ c.args.self.now.field = c.close.ensures.field ∙ c.offer-sheet.ensures.field ∙ c.new-fitting.ensures.field in
+    let plan : c.close.result.plan ≡ c.in-Ok.plan = c.close.ensures.plan ∙ c.offer_sheet.ensures.plan ∙ c.new-fitting.ensures.plan in
+    let field : c.close.result.field.now ≡ c.args.self.now.field = c.close.ensures.field ∙ c.offer_sheet.ensures.field ∙ c.new-fitting.ensures.field in
     let limit : c.new-fitting.result.plan.limit ≡ _ = ap (λ (p : Plan). p.limit) c.new-fitting.ensures.plan ∙ o.3 ∙ load in
     let held : ◌≡◌ {A = List ℕ × List ℕ} (points_of c.close.result.pairs, values_of c.close.result.pairs) _ =
     ap (λ (p : Pairs). (points_of p, values_of p)) c.close.ensures.pairs
     ∙ held_all F L n k c.requires.made s c.args.t c.requires.whole c.new-fitting.result.plan.limit (length c.args.sheet.now) _ _ limit
     (sym (length-map c.args.sheet.now stands) ∙ places F L n k c.requires.made s c.args.t c.requires.whole)
     (ap₂ (λ u v. (u, v)) c.new-fitting.ensures.points c.new-fitting.ensures.values)
-    (c.offer-sheet.ensures.held
+    (c.offer_sheet.ensures.held
     ∙ ap (λ z. fed (g.F.Field.means z) c.new-fitting.result.plan.limit (points_of c.new-fitting.result.pairs, values_of c.new-fitting.result.pairs) (pairs_of (span 0 (length c.args.sheet.now)) s)) c.new-fitting.ensures.field) in
     let list =
     list_same F L n k c.requires.made s c.args.t c.requires.whole (g.F.Field.means c.close.result.field.now) c.close.result.plan.k c.close.result.plan.t (points_of c.close.result.pairs) (values_of c.close.result.pairs)

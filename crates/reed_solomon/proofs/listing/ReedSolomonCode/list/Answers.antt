@@ -11,5 +11,5 @@ returns g c = record {
   few =
       subst Few (sym c.recover.ensures.answer)
       (reached_few (g.F.Field.means c.args.self.now.field) (g.met.F.Field.lawful c.args.self.now.field) c.args.self.now.n c.args.self.now.k c.requires.made (sheet_of c.args.sheet.now) c.args.t (length c.args.buf.now)
-      (sym c.if-not-has-sheet.ensures) (sym c.if-not-has-agreement.ensures));
+      (sym c.if-not-has_sheet.ensures) (sym c.if-not-has_agreement.ensures));
 }
