@@ -19,7 +19,7 @@ pub trait Scalar: Sized {
 
 // All theorems over a field. The functions below each state one of them, with its numbers.
 fn over_fields<K: Scalar>()
-    ensures { Recovery K.Scalar.laws }
+    ensures { Recovery K.laws }
 {}
 
 // All theorems for codes.
@@ -29,7 +29,7 @@ fn over_codes()
 
 // A curve with multiplicity r at different pairs, of weighted degree below r t, vanishes on every polynomial through t of them.
 pub fn curve_vanishes<K: Scalar>()
-    ensures elements { (r t : ℕ) → Vanishing K.Scalar.laws r t (r * t) }
+    ensures elements { (r t : ℕ) → Vanishing K.laws r t (r * t) }
     ensures coded { (F : Meaning) → Laws F → (r t : ℕ) → CodeVanishing F r t (r * t) }
 {
     over_fields::<K>();
@@ -38,7 +38,7 @@ pub fn curve_vanishes<K: Scalar>()
 
 // On a curve that is not zero lie fewer polynomials than it has rows.
 pub fn few_on_curve<K: Scalar>()
-    ensures elements { (rows : ℕ) → Few K.Scalar.laws rows rows }
+    ensures elements { (rows : ℕ) → Few K.laws rows rows }
     ensures coded { (F : Meaning) → Laws F → (rows : ℕ) → CodeFew F rows rows }
 {
     over_fields::<K>();
@@ -47,7 +47,7 @@ pub fn few_on_curve<K: Scalar>()
 
 // Two polynomials of k coefficients that agree at k points are equal.
 pub fn polynomials_are_unique<K: Scalar>()
-    ensures elements { (k : ℕ) → Unique K.Scalar.laws k k }
+    ensures elements { (k : ℕ) → Unique K.laws k k }
     ensures coded { (F : Meaning) → Laws F → (k : ℕ) → CodeUnique F k k }
 {
     over_fields::<K>();
@@ -56,7 +56,7 @@ pub fn polynomials_are_unique<K: Scalar>()
 
 // A step of Kötter's method keeps the invariant, as long as the columns of the table hold the degree.
 pub fn step_keeps<K: Scalar>()
-    ensures elements { (columns degree : ℕ) → degree < columns → StepKeeps K.Scalar.laws columns degree }
+    ensures elements { (columns degree : ℕ) → degree < columns → StepKeeps K.laws columns degree }
     ensures coded { (F : Meaning) → Laws F → (columns degree : ℕ) → degree < columns → CodeStepKeeps F columns degree }
 {
     over_fields::<K>();
@@ -65,7 +65,7 @@ pub fn step_keeps<K: Scalar>()
 
 // Where the monomials exceed the conditions of multiplicity r at N pairs, the steps end with a fitted curve.
 pub fn steps_end<K: Scalar>()
-    ensures elements { (r N : ℕ) → RunEnds K.Scalar.laws r N (N * r * (r + 1) / 2) }
+    ensures elements { (r N : ℕ) → RunEnds K.laws r N (N * r * (r + 1) / 2) }
     ensures coded { (F : Meaning) → Laws F → (r N : ℕ) → CodeRunEnds F r N (N * r * (r + 1) / 2) }
 {
     over_fields::<K>();
@@ -74,7 +74,7 @@ pub fn steps_end<K: Scalar>()
 
 // So a fitted curve exists there.
 pub fn curve_exists<K: Scalar>()
-    ensures elements { (r N : ℕ) → Interpolates K.Scalar.laws r N (N * r * (r + 1) / 2) }
+    ensures elements { (r N : ℕ) → Interpolates K.laws r N (N * r * (r + 1) / 2) }
     ensures coded { (F : Meaning) → Laws F → (r N : ℕ) → CodeInterpolates F r N (N * r * (r + 1) / 2) }
 {
     over_fields::<K>();
@@ -83,7 +83,7 @@ pub fn curve_exists<K: Scalar>()
 
 // The walk meets every polynomial on a curve whose weighted degree is below the number of columns.
 pub fn walk_misses_nothing<K: Scalar>()
-    ensures elements { (columns rows : ℕ) → WalkMeets K.Scalar.laws columns rows columns }
+    ensures elements { (columns rows : ℕ) → WalkMeets K.laws columns rows columns }
     ensures coded { (F : Meaning) → Laws F → (columns rows : ℕ) → CodeWalkMeets F columns rows columns }
 {
     over_fields::<K>();

@@ -50,8 +50,8 @@ fn fill_pairs<F: Field>(field: &F, task: Task, points: &mut [u8], values: &mut [
 }
 
 fn offer_all<F: Field>(fitting: &mut Gathering<F>, points: &[u8], values: &[u8])
-    requires made { Gathered (F.Field.means fitting.old.field.now) fitting.old.plan.limit (points_of fitting.old.pairs) (values_of fitting.old.pairs) }
-    ensures made { Gathered (F.Field.means fitting.new.field.now) fitting.new.plan.limit (points_of fitting.new.pairs) (values_of fitting.new.pairs) }
+    requires made { Gathered (F.means fitting.old.field.now) fitting.old.plan.limit (points_of fitting.old.pairs) (values_of fitting.old.pairs) }
+    ensures made { Gathered (F.means fitting.new.field.now) fitting.new.plan.limit (points_of fitting.new.pairs) (values_of fitting.new.pairs) }
 {
     for i in 0..points.len().min(values.len()) {
         let _ = fitting.take(points[i], values[i]);

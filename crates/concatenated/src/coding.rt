@@ -26,9 +26,9 @@ fn refuse(buf: &mut [u8], fault: Fault) -> Result<usize, Fault>
 
 // Whether the sheet has the places and letters of the concatenated code. The agreement has no part in it.
 fn takes<O: Code, I: Code>(outer: &O, inner: &I, agreement: usize, sheet: &[Marks]) -> bool
-    requires outer { O.Code.made outer.now }
-    requires inner { I.Code.made inner.now }
-    ensures { result ≡ is_sheet (concatenated (O.Code.means outer.now) (I.Code.means inner.now) agreement) (sheet_of sheet.now) }
+    requires outer { O.made outer.now }
+    requires inner { I.made inner.now }
+    ensures { result ≡ is_sheet (concatenated (O.means outer.now) (I.means inner.now) agreement) (sheet_of sheet.now) }
 {
     is_sheet(sheet, outer.places() * inner.places(), inner.letters())
 }
@@ -42,11 +42,11 @@ fn list_in_range<O: Code, I: Code>(
     t: usize,
     buf: &mut [u8],
 ) -> Result<usize, Fault>
-    requires outer { O.Code.made outer.now }
-    requires inner { I.Code.made inner.now }
-    requires asked { InRange (O.Code.means outer.now) (I.Code.means inner.now) agreement (sheet_of sheet.now) t }
-    ensures answer { result ≡ listed (concatenated (O.Code.means outer.now) (I.Code.means inner.now) agreement) (sheet_of sheet.now) t (length buf.old) }
-    ensures buffer { buf.new ≡ shown (concatenated (O.Code.means outer.now) (I.Code.means inner.now) agreement) (sheet_of sheet.now) t (length buf.old) }
+    requires outer { O.made outer.now }
+    requires inner { I.made inner.now }
+    requires asked { InRange (O.means outer.now) (I.means inner.now) agreement (sheet_of sheet.now) t }
+    ensures answer { result ≡ listed (concatenated (O.means outer.now) (I.means inner.now) agreement) (sheet_of sheet.now) t (length buf.old) }
+    ensures buffer { buf.new ≡ shown (concatenated (O.means outer.now) (I.means inner.now) agreement) (sheet_of sheet.now) t (length buf.old) }
 {
     let blank = Marks::new();
     let mut table = [blank; MAX_PLACES];

@@ -40,10 +40,10 @@ fn gather(found: &[u8], count: usize, k: usize, last: u8) -> Marks
 
 // The numbers of the messages that the inner code lists on one block. At most 256 messages of 16 letters find room in the table.
 fn lift_block<I: Code>(inner: &I, agreement: usize, part: &[Marks]) -> Result<Marks, Reach>
-    requires made { I.Code.made inner.now }
-    requires listable { Listable (I.Code.means inner.now) agreement }
-    requires whole { is_sheet (I.Code.means inner.now) (sheet_of part.now) ≡ true }
-    ensures { Lifts (I.Code.means inner.now) agreement (sheet_of part.now) result }
+    requires made { I.made inner.now }
+    requires listable { Listable (I.means inner.now) agreement }
+    requires whole { is_sheet (I.means inner.now) (sheet_of part.now) ≡ true }
+    ensures { Lifts (I.means inner.now) agreement (sheet_of part.now) result }
 {
     let mut found = [0u8; 4096];
     match inner.list(part, agreement, &mut found) {
@@ -63,13 +63,13 @@ fn lift_at<I: Code>(
     n: usize,
     b: usize,
 ) -> Result<Marks, Reach>
-    requires made { I.Code.made inner.now }
-    requires listable { Listable (I.Code.means inner.now) agreement }
-    requires width { n ≡ (I.Code.means inner.now).n }
+    requires made { I.made inner.now }
+    requires listable { Listable (I.means inner.now) agreement }
+    requires width { n ≡ (I.means inner.now).n }
     requires inside { b * n + n ≤ length sheet.now }
     requires few { b * n + n ≤ places_limit }
-    requires whole { is_sheet (I.Code.means inner.now) (sheet_of (block n sheet.now b)) ≡ true }
-    ensures { LiftsAt (I.Code.means inner.now) agreement (sheet_of (block n sheet.now b)) (b * n) result }
+    requires whole { is_sheet (I.means inner.now) (sheet_of (block n sheet.now b)) ≡ true }
+    ensures { LiftsAt (I.means inner.now) agreement (sheet_of (block n sheet.now b)) (b * n) result }
 {
     match lift_block(inner, agreement, block_of(sheet, b, n)) {
         Ok(marks) => Ok(marks),
@@ -84,10 +84,10 @@ pub(crate) fn lift_blocks<I: Code>(
     sheet: &[Marks],
     above: &mut [Marks],
 ) -> Result<(), Reach>
-    requires made { I.Code.made inner.now }
-    requires listable { Listable (I.Code.means inner.now) agreement }
-    requires blocks { Blocks (I.Code.means inner.now) (length above.old) (sheet_of sheet.now) }
-    ensures { LiftsAll (I.Code.means inner.now) agreement (sheet_of sheet.now) (length above.old) (sheet_of above.new) result }
+    requires made { I.made inner.now }
+    requires listable { Listable (I.means inner.now) agreement }
+    requires blocks { Blocks (I.means inner.now) (length above.old) (sheet_of sheet.now) }
+    ensures { LiftsAll (I.means inner.now) agreement (sheet_of sheet.now) (length above.old) (sheet_of above.new) result }
 {
     let n = inner.places();
     for b in 0..above.len() {

@@ -8,17 +8,17 @@ use code::{Code, spell};
 
 // The largest letter of a code's messages.
 pub(crate) fn largest<C: Code>(code: &C) -> u8
-    requires made { C.Code.made code.now }
-    ensures { result + 1 ≡ (C.Code.means code.now).p }
+    requires made { C.made code.now }
+    ensures { result + 1 ≡ (C.means code.now).p }
 {
     (code.base() - 1) as u8
 }
 
 // Writes the inner word of the message with this number.
 fn write_word<I: Code>(inner: &I, letter: u8, part: &mut [u8])
-    requires made { I.Code.made inner.now }
-    requires whole { length part.old ≡ (I.Code.means inner.now).n }
-    ensures { part.new ≡ inner_word (I.Code.means inner.now) letter }
+    requires made { I.made inner.now }
+    requires whole { length part.old ≡ (I.means inner.now).n }
+    ensures { part.new ≡ inner_word (I.means inner.now) letter }
 {
     let mut letters = [0u8; 16];
     let message = &mut letters[0..inner.dimension()];
@@ -28,19 +28,19 @@ fn write_word<I: Code>(inner: &I, letter: u8, part: &mut [u8])
 
 // The same, into block b of a word, where blocks have n letters.
 fn write_block<I: Code>(inner: &I, letter: u8, n: usize, b: usize, word: &mut [u8])
-    requires made { I.Code.made inner.now }
-    requires width { n ≡ (I.Code.means inner.now).n }
+    requires made { I.made inner.now }
+    requires width { n ≡ (I.means inner.now).n }
     requires room { b * n + n ≤ length word.old }
-    ensures { word.new ≡ with_block n b (inner_word (I.Code.means inner.now) letter) word.old }
+    ensures { word.new ≡ with_block n b (inner_word (I.means inner.now) letter) word.old }
 {
     write_word(inner, letter, &mut word[b * n..b * n + n]);
 }
 
 // Writes the inner word of each outer letter, block after block.
 pub(crate) fn write_blocks<I: Code>(inner: &I, above: &[u8], word: &mut [u8])
-    requires made { I.Code.made inner.now }
-    requires whole { length word.old ≡ length above.now * (I.Code.means inner.now).n }
-    ensures { word.new ≡ each (inner_word (I.Code.means inner.now)) above.now }
+    requires made { I.made inner.now }
+    requires whole { length word.old ≡ length above.now * (I.means inner.now).n }
+    ensures { word.new ≡ each (inner_word (I.means inner.now)) above.now }
 {
     let n = inner.places();
     for b in 0..above.len() {

@@ -6,7 +6,7 @@ use crate::traits::Field;
 
 // Horner's rule: from the last coefficient down, the sum so far times the point, and the coefficient.
 fn horner<F: Field>(field: &F, coefficients: &[u8], point: u8) -> u8
-    ensures { result ≡ value (F.Field.means field.now) coefficients.now point }
+    ensures { result ≡ value (F.means field.now) coefficients.now point }
 {
     let mut sum = 0;
     for i in (0..coefficients.len()).rev() {
@@ -17,7 +17,7 @@ fn horner<F: Field>(field: &F, coefficients: &[u8], point: u8) -> u8
 
 // The value at the point of the polynomial with these coefficients, the constant first.
 pub fn value<F: Field>(field: &F, coefficients: &[u8], point: u8) -> u8
-    ensures { result ≡ value (F.Field.means field.now) coefficients.now point }
+    ensures { result ≡ value (F.means field.now) coefficients.now point }
 {
     horner(field, coefficients, point)
 }

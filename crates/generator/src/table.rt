@@ -38,8 +38,8 @@ fn pad(rows: &[u8]) -> [u8; TABLE_SIZE]
 impl<F: Field + Drop> Generator<F> {
     // The code of these rows, one after another. Refused where a size is outside its limits, or where the rows are not a table of letters with the identity in front.
     pub fn new(field: F, n: usize, k: usize, rows: &[u8]) -> Result<Generator<F>, Fault>
-        ensures answer { result ≡ making F.Field.means field n k rows.now }
-        ensures made { elim result [ Ok c ↦ Made F.Field.means c | Err e ↦ Unit {0} ] }
+        ensures answer { result ≡ making F.means field n k rows.now }
+        ensures made { elim result [ Ok c ↦ Made F.means c | Err e ↦ Unit {0} ] }
     {
         let q = field.size() as usize;
         if !is_shaped(q, n, k) {
@@ -59,23 +59,23 @@ impl<F: Field + Drop> Generator<F> {
 impl<F: Field> Generator<F> {
     // The largest letter.
     fn largest(&self) -> u8
-        ensures { result + 1 ≡ (meaning_of F.Field.means self.now).p }
+        ensures { result + 1 ≡ (meaning_of F.means self.now).p }
     {
         (self.field.size() - 1) as u8
     }
 
     // How many messages there are.
     fn total(&self) -> usize
-        requires made { Made F.Field.means self.now }
-        ensures { result ≡ how_many (meaning_of F.Field.means self.now) }
+        requires made { Made F.means self.now }
+        ensures { result ≡ how_many (meaning_of F.means self.now) }
     {
         (self.field.size() as usize).pow(self.k as u32)
     }
 
     // Whether message v scores at least t.
     fn passes(&self, sheet: &[Marks], t: usize, v: usize) -> bool
-        requires made { Made F.Field.means self.now }
-        ensures { result ≡ passes (meaning_of F.Field.means self.now) (sheet_of sheet.now) t v }
+        requires made { Made F.means self.now }
+        ensures { result ≡ passes (meaning_of F.means self.now) (sheet_of sheet.now) t v }
     {
         let mut letters = [0u8; MAX_ROWS];
         let message = &mut letters[0..self.k];
@@ -88,8 +88,8 @@ impl<F: Field> Generator<F> {
 
     // The fewer of best and the nonzero letters of message v's word, where the message is not zero.
     fn fewer(&self, v: usize, best: usize) -> usize
-        requires made { Made F.Field.means self.now }
-        ensures { result ≡ lower (meaning_of F.Field.means self.now) best v }
+        requires made { Made F.means self.now }
+        ensures { result ≡ lower (meaning_of F.means self.now) best v }
     {
         let mut letters = [0u8; MAX_ROWS];
         let message = &mut letters[0..self.k];
@@ -105,8 +105,8 @@ impl<F: Field> Generator<F> {
 
     // The fewest nonzero letters in the word of a nonzero message.
     pub fn distance(&self) -> usize
-        requires made { Made F.Field.means self.now }
-        ensures { result ≡ distance_of F.Field.means self.now }
+        requires made { Made F.means self.now }
+        ensures { result ≡ distance_of F.means self.now }
     {
         let mut best = self.n;
         for v in 0..self.total() {
@@ -117,7 +117,7 @@ impl<F: Field> Generator<F> {
 
     // Whether this is a sheet of n places, with letters of the field.
     pub(crate) fn has_sheet(&self, sheet: &[Marks]) -> bool
-        ensures { result ≡ is_sheet (meaning_of F.Field.means self.now) (sheet_of sheet.now) }
+        ensures { result ≡ is_sheet (meaning_of F.means self.now) (sheet_of sheet.now) }
     {
         is_sheet(sheet, self.n, self.field.size() as usize)
     }
@@ -131,8 +131,8 @@ impl<F: Field> Generator<F> {
 
     // How many messages the list has.
     pub(crate) fn count(&self, sheet: &[Marks], t: usize) -> usize
-        requires made { Made F.Field.means self.now }
-        ensures exact { result ≡ length (listing (meaning_of F.Field.means self.now) (sheet_of sheet.now) t) }
+        requires made { Made F.means self.now }
+        ensures exact { result ≡ length (listing (meaning_of F.means self.now) (sheet_of sheet.now) t) }
         ensures few { result ≤ max_messages }
     {
         let mut count = 0;
@@ -146,10 +146,10 @@ impl<F: Field> Generator<F> {
 
     // Writes message v into the buffer from a place on, where it scores at least t. Answers the place after it.
     fn put(&self, sheet: &[Marks], t: usize, v: usize, buf: &mut [u8], at: usize) -> usize
-        requires made { Made F.Field.means self.now }
-        requires room { at + length (added (meaning_of F.Field.means self.now) (sheet_of sheet.now) t v) ≤ length buf.old }
-        ensures place { result ≡ at + length (added (meaning_of F.Field.means self.now) (sheet_of sheet.now) t v) }
-        ensures buffer { buf.new ≡ written at (added (meaning_of F.Field.means self.now) (sheet_of sheet.now) t v) buf.old }
+        requires made { Made F.means self.now }
+        requires room { at + length (added (meaning_of F.means self.now) (sheet_of sheet.now) t v) ≤ length buf.old }
+        ensures place { result ≡ at + length (added (meaning_of F.means self.now) (sheet_of sheet.now) t v) }
+        ensures buffer { buf.new ≡ written at (added (meaning_of F.means self.now) (sheet_of sheet.now) t v) buf.old }
     {
         if !self.passes(sheet, t, v) {
             return at;
@@ -160,10 +160,10 @@ impl<F: Field> Generator<F> {
 
     // Writes the list to the front of a zero buffer.
     pub(crate) fn write(&self, sheet: &[Marks], t: usize, buf: &mut [u8])
-        requires made { Made F.Field.means self.now }
+        requires made { Made F.means self.now }
         requires zeros { buf.old ≡ replicate (length buf.old) 0 }
-        requires room { self.now.k * length (listing (meaning_of F.Field.means self.now) (sheet_of sheet.now) t) ≤ length buf.old }
-        ensures { buf.new ≡ padded (length buf.old) (each (λ x. x) (listing (meaning_of F.Field.means self.now) (sheet_of sheet.now) t)) }
+        requires room { self.now.k * length (listing (meaning_of F.means self.now) (sheet_of sheet.now) t) ≤ length buf.old }
+        ensures { buf.new ≡ padded (length buf.old) (each (λ x. x) (listing (meaning_of F.means self.now) (sheet_of sheet.now) t)) }
     {
         let mut at = 0;
         for v in 0..self.total() {

@@ -22,7 +22,7 @@ fn letter_of<F: Field>(field: &F, table: &[u8], n: usize, message: &[u8], j: usi
     requires message { length message.now ≤ max_rows }
     requires n { n ≤ max_places }
     requires j { j < n }
-    ensures { result ≡ letter (F.Field.means field.now) table.now n message.now j }
+    ensures { result ≡ letter (F.means field.now) table.now n message.now j }
 {
     let mut sum = 0;
     for i in (0..message.len()).rev() {
@@ -36,7 +36,7 @@ pub(crate) fn word_of<F: Field>(field: &F, table: &[u8], message: &[u8], word: &
     requires table { length table.now ≡ table_size }
     requires message { length message.now ≤ max_rows }
     requires n { length word.old ≤ max_places }
-    ensures { word.new ≡ gen_word (F.Field.means field.now) table.now (length word.old) message.now }
+    ensures { word.new ≡ gen_word (F.means field.now) table.now (length word.old) message.now }
 {
     for j in 0..word.len() {
         word[j] = letter_of(field, table, word.len(), message, j);

@@ -10,9 +10,9 @@ use fault::Fault;
 
 // What a code is, for the one that was chosen by this number.
 pub(crate) fn put_choice<C: Code>(out: &mut [u8], at: usize, number: u8, code: &C) -> usize
-    requires made { made code.now }
+    requires made { C.made code.now }
     requires low { at < 2 ^ 60 }
-    ensures wrote { Wrote out.old at (choice_line number (means code.now)) out.new result }
+    ensures wrote { Wrote out.old at (choice_line number (C.means code.now)) out.new result }
     ensures bound { result ≤ at + 200 }
 {
     let code_end = put_field(out, at, b"code ", number as usize);

@@ -44,7 +44,7 @@ impl<'a, F: Field> Gathering<'a, F> {
         ensures plan { result.plan ≡ plan }
         ensures points { points_of result.pairs ≡ [] }
         ensures values { values_of result.pairs ≡ [] }
-        ensures made { Gathered (F.Field.means result.field.now) result.plan.limit (points_of result.pairs) (values_of result.pairs) }
+        ensures made { Gathered (F.means result.field.now) result.plan.limit (points_of result.pairs) (values_of result.pairs) }
     {
         Gathering {
             field,
@@ -55,13 +55,13 @@ impl<'a, F: Field> Gathering<'a, F> {
 
     // Takes one pair, and answers how many are held.
     pub fn take(&mut self, point: u8, value: u8) -> Result<usize, Fault>
-        requires made { Gathered (F.Field.means self.old.field.now) self.old.plan.limit (points_of self.old.pairs) (values_of self.old.pairs) }
-        ensures answer { result ≡ taken (F.Field.means self.old.field.now) self.old.plan.limit (points_of self.old.pairs) (values_of self.old.pairs) point value }
+        requires made { Gathered (F.means self.old.field.now) self.old.plan.limit (points_of self.old.pairs) (values_of self.old.pairs) }
+        ensures answer { result ≡ taken (F.means self.old.field.now) self.old.plan.limit (points_of self.old.pairs) (values_of self.old.pairs) point value }
         ensures points { points_of self.new.pairs ≡ kept result (points_of self.old.pairs) point }
         ensures values { values_of self.new.pairs ≡ kept result (values_of self.old.pairs) value }
         ensures plan { self.new.plan ≡ self.old.plan }
         ensures field { self.new.field.now ≡ self.old.field.now }
-        ensures made { Gathered (F.Field.means self.new.field.now) self.new.plan.limit (points_of self.new.pairs) (values_of self.new.pairs) }
+        ensures made { Gathered (F.means self.new.field.now) self.new.plan.limit (points_of self.new.pairs) (values_of self.new.pairs) }
     {
         let size = self.field.size();
         if !is_point(point, size) {
@@ -83,11 +83,11 @@ impl<'a, F: Field> Gathering<'a, F> {
 
     // Fits a curve to the pairs taken.
     pub fn close(self) -> Closed<'a, F>
-        requires made { Gathered (F.Field.means self.field.now) self.plan.limit (points_of self.pairs) (values_of self.pairs) }
+        requires made { Gathered (F.means self.field.now) self.plan.limit (points_of self.pairs) (values_of self.pairs) }
         ensures field { result.field.now ≡ self.entry.field.now }
         ensures plan { result.plan ≡ self.entry.plan }
         ensures pairs { result.pairs ≡ self.entry.pairs }
-        ensures made { Around (F.Field.means result.field.now) result.plan.k result.plan.t result.plan.r (points_of result.pairs) (values_of result.pairs) result.curve.cells }
+        ensures made { Around (F.means result.field.now) result.plan.k result.plan.t result.plan.r (points_of result.pairs) (values_of result.pairs) result.curve.cells }
     {
         let Gathering { field, plan, pairs } = self;
         let curve = interpolate(
@@ -124,9 +124,9 @@ impl<'a, F: Field> Closed<'a, F> {
 
     // Lists the polynomials of k coefficients through at least t of the pairs, and uses the fitting up, also when refused.
     pub fn walk(self, buf: &mut [u8]) -> Result<usize, Fault>
-        requires made { Around (F.Field.means self.field.now) self.plan.k self.plan.t self.plan.r (points_of self.pairs) (values_of self.pairs) self.curve.cells }
-        ensures answer { result ≡ reached self.entry.plan.k (length buf.old) (recovered (F.Field.means self.entry.field.now) self.entry.plan.k self.entry.plan.t (points_of self.entry.pairs) (values_of self.entry.pairs)) within }
-        ensures buffer { buf.new ≡ laid (length buf.old) (recovered (F.Field.means self.entry.field.now) self.entry.plan.k self.entry.plan.t (points_of self.entry.pairs) (values_of self.entry.pairs)) result }
+        requires made { Around (F.means self.field.now) self.plan.k self.plan.t self.plan.r (points_of self.pairs) (values_of self.pairs) self.curve.cells }
+        ensures answer { result ≡ reached self.entry.plan.k (length buf.old) (recovered (F.means self.entry.field.now) self.entry.plan.k self.entry.plan.t (points_of self.entry.pairs) (values_of self.entry.pairs)) within }
+        ensures buffer { buf.new ≡ laid (length buf.old) (recovered (F.means self.entry.field.now) self.entry.plan.k self.entry.plan.t (points_of self.entry.pairs) (values_of self.entry.pairs)) result }
     {
         let Closed {
             field,

@@ -87,7 +87,7 @@ impl Table {
     // The discrepancy of curve j under the weights; a curve that is not live is passed over.
     fn value_at<F: Field>(&self, field: &F, wx: &[u8], wy: &[u8], j: usize) -> u8
         requires { (self.now.weight < rows) × ((self.now.degree < columns) × ((self.now.degree < length wx.now) × ((rows ≤ length wy.now) × (j < rows)))) }
-        ensures { Valued (means field.now) self.now.weight self.now.degree wx.now wy.now (led self.now.curves j) j result }
+        ensures { Valued (F.means field.now) self.now.weight self.now.degree wx.now wy.now (led self.now.curves j) j result }
     {
         let degree = self.lead_degree(j);
         if degree <= self.degree {
@@ -101,7 +101,7 @@ impl Table {
     fn values<F: Field>(&self, field: &F, wx: &[u8], wy: &[u8]) -> [u8; ROWS]
         requires { (self.now.weight < rows) × ((self.now.degree < columns) × ((self.now.degree < length wx.now) × (rows ≤ length wy.now))) }
         ensures size { length result ≡ rows }
-        ensures each { (j : ℕ) → j < rows → Valued (means field.now) self.now.weight self.now.degree wx.now wy.now (led self.now.curves j) j (at result j) }
+        ensures each { (j : ℕ) → j < rows → Valued (F.means field.now) self.now.weight self.now.degree wx.now wy.now (led self.now.curves j) j (at result j) }
     {
         let mut ds = [0; ROWS];
         for j in 0..ROWS {
@@ -130,7 +130,7 @@ impl Table {
     // A multiple of the pivot is taken off the other curves that fail, and the pivot is multiplied by x - a.
     fn apply<F: Field>(&mut self, field: &F, a: u8, p: usize, ds: &[u8; ROWS])
         requires { (self.old.weight < rows) × ((self.old.degree < columns) × ((p < rows) × (((led self.old.curves p).lead < columns) × (((j : ℕ) → j < rows → at ds.now j ≢ 0 → (led self.old.curves j).lead + self.old.weight * j < columns))))) }
-        ensures applied { Applied (means field.now) self.old.weight self.old.degree a p ds.now self.old.curves self.new.curves }
+        ensures applied { Applied (F.means field.now) self.old.weight self.old.degree a p ds.now self.old.curves self.new.curves }
         ensures weight { self.new.weight ≡ self.old.weight }
         ensures degree { self.new.degree ≡ self.old.degree }
     {
@@ -154,7 +154,7 @@ impl Table {
     // One step of the method, at the condition whose weights are given.
     fn step<F: Field>(&mut self, field: &F, a: u8, wx: &[u8], wy: &[u8])
         requires { (self.old.weight < rows) × ((self.old.degree < columns) × ((self.old.degree < length wx.now) × (rows ≤ length wy.now))) }
-        ensures stepped { (b u w : ℕ) → Weighed (means field.now) a u (self.old.degree + 1) wx.now → Weighed (means field.now) b w rows wy.now → Bounded (means field.now) self.old.weight self.old.degree self.old.curves → Stepped (means field.now) self.old.weight self.old.degree a b u w self.old.curves self.new.curves }
+        ensures stepped { (b u w : ℕ) → Weighed (F.means field.now) a u (self.old.degree + 1) wx.now → Weighed (F.means field.now) b w rows wy.now → Bounded (F.means field.now) self.old.weight self.old.degree self.old.curves → Stepped (F.means field.now) self.old.weight self.old.degree a b u w self.old.curves self.new.curves }
         ensures weight { self.new.weight ≡ self.old.weight }
         ensures degree { self.new.degree ≡ self.old.degree }
     {
@@ -178,9 +178,9 @@ impl Table {
         wy: &[u8; ROWS],
     )
         requires weight_lt_rows { (self.old.weight < rows) × ((self.old.degree < columns) × ((w < r) × (t < length xs.now))) }
-        requires weighed { (Weighed (means field.now) (at xs.now t) 0 (self.old.degree + 1) first.now) × (Weighed (means field.now) (at ys.now t) w rows wy.now) }
-        requires columns_met { ColumnsMet (means field.now) self.old.weight self.old.degree r xs.now ys.now t w self.old.curves }
-        ensures met { ColumnsMet (means field.now) self.old.weight self.old.degree r xs.now ys.now t (w + 1) self.new.curves }
+        requires weighed { (Weighed (F.means field.now) (at xs.now t) 0 (self.old.degree + 1) first.now) × (Weighed (F.means field.now) (at ys.now t) w rows wy.now) }
+        requires columns_met { ColumnsMet (F.means field.now) self.old.weight self.old.degree r xs.now ys.now t w self.old.curves }
+        ensures met { ColumnsMet (F.means field.now) self.old.weight self.old.degree r xs.now ys.now t (w + 1) self.new.curves }
         ensures weight { self.new.weight ≡ self.old.weight }
         ensures degree { self.new.degree ≡ self.old.degree }
     {
@@ -195,8 +195,8 @@ impl Table {
     // The conditions of multiplicity r at pair t.
     fn meet_pair<F: Field>(&mut self, field: &F, r: usize, xs: &[u8], ys: &[u8], t: usize)
         requires weight_lt_rows { (self.old.weight < rows) × ((self.old.degree < columns) × ((t < length xs.now) × (t < length ys.now))) }
-        requires pairs_met { PairsMet (means field.now) self.old.weight self.old.degree r xs.now ys.now t self.old.curves }
-        ensures met { PairsMet (means field.now) self.old.weight self.old.degree r xs.now ys.now (t + 1) self.new.curves }
+        requires pairs_met { PairsMet (F.means field.now) self.old.weight self.old.degree r xs.now ys.now t self.old.curves }
+        ensures met { PairsMet (F.means field.now) self.old.weight self.old.degree r xs.now ys.now (t + 1) self.new.curves }
         ensures weight { self.new.weight ≡ self.old.weight }
         ensures degree { self.new.degree ≡ self.old.degree }
     {
@@ -213,7 +213,7 @@ impl Table {
     // The conditions of multiplicity r at every pair.
     fn meet<F: Field>(&mut self, field: &F, r: usize, xs: &[u8], ys: &[u8])
         requires { (self.old.weight < rows) × ((self.old.degree < columns) × ((length xs.now ≤ length ys.now) × (Fresh self.old.curves))) }
-        ensures met { PairsMet (means field.now) self.old.weight self.old.degree r xs.now ys.now (length xs.now) self.new.curves }
+        ensures met { PairsMet (F.means field.now) self.old.weight self.old.degree r xs.now ys.now (length xs.now) self.new.curves }
         ensures weight { self.new.weight ≡ self.old.weight }
         ensures degree { self.new.degree ≡ self.old.degree }
     {
@@ -248,7 +248,7 @@ pub(crate) fn interpolate<F: Field>(
     ys: &[u8],
 ) -> Curve
     requires { (weight < rows) × ((degree < columns) × ((length xs.now ≤ length ys.now) × (length xs.now * r * (r + 1) / 2 < monomials rows weight degree))) }
-    ensures { Fitted (codes (means field.now)) columns rows weight degree r (length xs.now) (at xs.now) (at ys.now) (curve-table (means field.now) columns result.cells) }
+    ensures { Fitted (codes (F.means field.now)) columns rows weight degree r (length xs.now) (at xs.now) (at ys.now) (curve-table (F.means field.now) columns result.cells) }
 {
     let mut table = Table::new(weight, degree);
     table.meet(field, r, xs, ys);

@@ -43,7 +43,7 @@ pub(crate) fn value<F: Field>(
     curve: &Curve,
 ) -> u8
     requires { (weight < rows) × ((degree < columns) × ((degree < length wx.now) × (rows ≤ length wy.now))) }
-    ensures { (a b u w : ℕ) → Weighed (means field.now) a u (degree + 1) wx.now → Weighed (means field.now) b w rows wy.now → DegreeBelow (codes (means field.now)) columns rows weight (suc degree) (table (means field.now) columns curve.now.cells) → result ≡ discrepancy (codes (means field.now)) columns rows a b u w (table (means field.now) columns curve.now.cells) }
+    ensures { (a b u w : ℕ) → Weighed (F.means field.now) a u (degree + 1) wx.now → Weighed (F.means field.now) b w rows wy.now → DegreeBelow (codes (F.means field.now)) columns rows weight (suc degree) (table (F.means field.now) columns curve.now.cells) → result ≡ discrepancy (codes (F.means field.now)) columns rows a b u w (table (F.means field.now) columns curve.now.cells) }
 {
     let mut sum = 0;
     for j in 0..height(weight, degree) {
@@ -68,7 +68,7 @@ fn mix_cells<F: Field>(
     pivot: &[u8],
 )
     requires { (weight < rows) × ((degree < columns) × ((length cells.old ≡ all) × (length pivot.now ≡ all))) }
-    ensures { Changed weight degree rows (mixed_cell (means field.now) d cells.old e pivot.now) cells.old cells.new }
+    ensures { Changed weight degree rows (mixed_cell (F.means field.now) d cells.old e pivot.now) cells.old cells.new }
 {
     for j in 0..height(weight, degree) {
         let from = COLUMNS * j;
@@ -86,7 +86,7 @@ fn mix_cells<F: Field>(
 // x - a times a curve, in its place.
 fn lift_cells<F: Field>(field: &F, weight: usize, degree: usize, a: u8, cells: &mut [u8])
     requires { (weight < rows) × ((degree < columns) × (length cells.old ≡ all)) }
-    ensures { Changed weight degree rows (lifted_cell (means field.now) a cells.old) cells.old cells.new }
+    ensures { Changed weight degree rows (lifted_cell (F.means field.now) a cells.old) cells.old cells.new }
 {
     for j in 0..height(weight, degree) {
         let from = COLUMNS * j;
@@ -106,7 +106,7 @@ pub(crate) fn mix<F: Field>(
     pivot: &Curve,
 )
     requires { (weight < rows) × ((j < rows) × ((e ≢ 0 → led.old.lead + weight * j < columns))) }
-    ensures { Taken (means field.now) weight j d e pivot.now.cells led.old led.new }
+    ensures { Taken (F.means field.now) weight j d e pivot.now.cells led.old led.new }
 {
     if e != 0 {
         let degree = led.lead as usize + weight * j;
@@ -133,7 +133,7 @@ pub(crate) fn lift<F: Field>(
 )
     requires { (weight < rows) × ((most < columns) × ((j < rows) × (led.old.lead < columns))) }
     ensures lead { led.new.lead ≡ suc led.old.lead }
-    ensures cells { led.new.lead + weight * j ≤ most → Changed weight (led.new.lead + weight * j) rows (lifted_cell (means field.now) a led.old.curve.cells) led.old.curve.cells led.new.curve.cells }
+    ensures cells { led.new.lead + weight * j ≤ most → Changed weight (led.new.lead + weight * j) rows (lifted_cell (F.means field.now) a led.old.curve.cells) led.old.curve.cells led.new.curve.cells }
 {
     led.lead += 1;
     let degree = led.lead as usize + weight * j;

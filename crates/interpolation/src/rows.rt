@@ -23,7 +23,7 @@ pub(crate) fn width(weight: usize, degree: usize, j: usize) -> usize
 // The sum of weight times coefficient.
 pub(crate) fn dot<F: Field>(field: &F, weights: &[u8], row: &[u8]) -> u8
     requires { length row.now ≤ length weights.now }
-    ensures { result ≡ dot (codes (means field.now)) (length row.now) (at weights.now) (at row.now) }
+    ensures { result ≡ dot (codes (F.means field.now)) (length row.now) (at weights.now) (at row.now) }
 {
     let mut sum = 0;
     for i in 0..row.len() {
@@ -33,7 +33,7 @@ pub(crate) fn dot<F: Field>(field: &F, weights: &[u8], row: &[u8]) -> u8
 }
 
 fn mixed<F: Field>(field: &F, d: u8, c: u8, e: u8, g: u8) -> u8
-    ensures { result ≡ mixed (means field.now) d c e g }
+    ensures { result ≡ mixed (F.means field.now) d c e g }
 {
     field.sub(field.mul(d, c), field.mul(e, g))
 }
@@ -41,7 +41,7 @@ fn mixed<F: Field>(field: &F, d: u8, c: u8, e: u8, g: u8) -> u8
 // d times the row less e times the pivot's row, in its place.
 pub(crate) fn mix_row<F: Field>(field: &F, d: u8, row: &mut [u8], e: u8, pivot: &[u8])
     requires { length row.old ≤ length pivot.now }
-    ensures { (i : ℕ) → i < length row.old → at row.new i ≡ mixed (means field.now) d (at row.old i) e (at pivot.now i) }
+    ensures { (i : ℕ) → i < length row.old → at row.new i ≡ mixed (F.means field.now) d (at row.old i) e (at pivot.now i) }
 {
     for i in 0..row.len() {
         row[i] = mixed(field, d, row[i], e, pivot[i]);
@@ -50,14 +50,14 @@ pub(crate) fn mix_row<F: Field>(field: &F, d: u8, row: &mut [u8], e: u8, pivot: 
 
 // The coefficient of (x - a) f at a power of x, from the coefficients of f at the power before and at this one.
 fn lifted<F: Field>(field: &F, before: u8, a: u8, here: u8) -> u8
-    ensures { result ≡ (means field.now).difference before ((means field.now).product a here) }
+    ensures { result ≡ (F.means field.now).difference before ((F.means field.now).product a here) }
 {
     field.sub(before, field.mul(a, here))
 }
 
 // x - a times the row, in its place, without the term past its end.
 pub(crate) fn lift_row<F: Field>(field: &F, a: u8, row: &mut [u8])
-    ensures { (i : ℕ) → i < length row.old → at row.new i ≡ lifted (means field.now) a (at row.old) i }
+    ensures { (i : ℕ) → i < length row.old → at row.new i ≡ lifted (F.means field.now) a (at row.old) i }
 {
     let mut before = 0;
     for i in 0..row.len() {

@@ -176,7 +176,7 @@ pub(crate) fn lower(curve: &mut Curve, region: Region) -> Foot
 
 // Whether the polynomial with these coefficients is zero at the point.
 pub(crate) fn is_root<F: Field>(field: &F, coefficients: &[u8], point: u8) -> bool
-    ensures { result ≡ (value (means field.now) coefficients.now point == 0) }
+    ensures { result ≡ (value (F.means field.now) coefficients.now point == 0) }
 {
     value(field, coefficients, point) == 0
 }
@@ -185,7 +185,7 @@ pub(crate) fn is_root<F: Field>(field: &F, coefficients: &[u8], point: u8) -> bo
 fn mixed<F: Field>(field: &F, curve: &Curve, root: u8, i: usize, j: usize) -> u8
     requires column { i < columns }
     requires row { j + 1 < rows }
-    ensures { result ≡ mixed_at (means field.now) root curve.now.cells j i }
+    ensures { result ≡ mixed_at (F.means field.now) root curve.now.cells j i }
 {
     field.add(
         field.mul(root, curve.cells[place(i, j + 1)]),
@@ -197,7 +197,7 @@ fn mixed<F: Field>(field: &F, curve: &Curve, root: u8, i: usize, j: usize) -> u8
 fn mix_row<F: Field>(field: &F, curve: &mut Curve, width: usize, root: u8, j: usize)
     requires wide { width ≤ columns }
     requires row { j + 1 < rows }
-    ensures { RowSet 0 width j (mixed_at (means field.now) root curve.old.cells j) curve.old.cells curve.new.cells }
+    ensures { RowSet 0 width j (mixed_at (F.means field.now) root curve.old.cells j) curve.old.cells curve.new.cells }
 {
     for i in 0..width {
         let coefficient = mixed(field, curve, root, i, j);
@@ -209,7 +209,7 @@ fn mix_row<F: Field>(field: &F, curve: &mut Curve, width: usize, root: u8, j: us
 fn mix_rows<F: Field>(field: &F, curve: &mut Curve, region: Region, root: u8, k: usize)
     requires inside { Inside region }
     requires row { k < region.height }
-    ensures { RowsSet (above_at region) k (region.height - 1) (mixed_at (means field.now) root curve.old.cells) curve.old.cells curve.new.cells }
+    ensures { RowsSet (above_at region) k (region.height - 1) (mixed_at (F.means field.now) root curve.old.cells) curve.old.cells curve.new.cells }
 {
     for j in k..region.height - 1 {
         mix_row(field, curve, row_width(region, j + 1), root, j);
@@ -219,8 +219,8 @@ fn mix_rows<F: Field>(field: &F, curve: &mut Curve, region: Region, root: u8, k:
 // Puts y + root for y, by Horner's rule from the last row down.
 fn translate<F: Field>(field: &F, curve: &mut Curve, region: Region, root: u8)
     requires inside { Inside region }
-    requires light { Light (means field.now) region curve.old.cells }
-    ensures { Translated (means field.now) region root curve.old.cells curve.new.cells }
+    requires light { Light (F.means field.now) region curve.old.cells }
+    ensures { Translated (F.means field.now) region root curve.old.cells curve.new.cells }
 {
     for k in (0..region.height).rev() {
         mix_rows(field, curve, region, root, k);
@@ -277,8 +277,8 @@ pub(crate) fn lightened(region: Region) -> Region
 pub(crate) fn substitute<F: Field>(field: &F, curve: &mut Curve, region: Region, root: u8)
     requires inside { Inside region }
     requires heavy { 1 ≤ region.weight }
-    requires light { Light (means field.now) region curve.old.cells }
-    ensures { Moved (means field.now) region root curve.old.cells curve.new.cells }
+    requires light { Light (F.means field.now) region curve.old.cells }
+    ensures { Moved (F.means field.now) region root curve.old.cells curve.new.cells }
 {
     translate(field, curve, region, root);
     raise_rows(curve, lightened(region));

@@ -33,7 +33,7 @@ struct Tally {
 // How many of the pairs the polynomial passes through.
 fn score_of<F: Field>(field: &F, xs: &[u8], ys: &[u8], message: &[u8]) -> usize
     requires { length xs.now ≤ length ys.now }
-    ensures { result ≡ score (means field.now) xs.now ys.now message.now }
+    ensures { result ≡ score (F.means field.now) xs.now ys.now message.now }
 {
     let mut n = 0;
     for i in 0..xs.len() {
@@ -47,7 +47,7 @@ fn score_of<F: Field>(field: &F, xs: &[u8], ys: &[u8], message: &[u8]) -> usize
 // Whether the polynomial passes through at least t of the pairs.
 fn is_listed<F: Field>(field: &F, t: usize, xs: &[u8], ys: &[u8], message: &[u8]) -> bool
     requires { length xs.now ≤ length ys.now }
-    ensures { result ≡ passes (means field.now) t xs.now ys.now message.now }
+    ensures { result ≡ passes (F.means field.now) t xs.now ys.now message.now }
 {
     score_of(field, xs, ys, message) >= t
 }
@@ -93,7 +93,7 @@ fn keep<F: Field>(
     requires room { Room (length message.now) (length buf.old) tally.old.count }
     ensures room { Room (length message.now) (length buf.new) tally.new.count }
     ensures size { length buf.new ≡ length buf.old }
-    ensures held { Adds (length message.now) (chosen (means field.now) t xs.now ys.now (message.now ∷ [])) buf.old tally.old buf.new tally.new }
+    ensures held { Adds (length message.now) (chosen (F.means field.now) t xs.now ys.now (message.now ∷ [])) buf.old tally.old buf.new tally.new }
 {
     if is_listed(field, t, xs, ys, message) {
         push(message, buf, tally);
@@ -125,9 +125,9 @@ fn step<F: Field>(
     requires deep { depth < k }
     requires inside { Inside region }
     requires heavy { depth + 1 < k → 1 ≤ region.weight }
-    requires light { Light (means field.now) region (cells_at curves.old depth) }
+    requires light { Light (F.means field.now) region (cells_at curves.old depth) }
     ensures kept { (d : ℕ) → d ≤ depth → cells_at curves.new d ≡ cells_at curves.old d }
-    ensures next { depth + 1 < k → Moved (means field.now) region root (cells_at curves.old depth) (cells_at curves.new (depth + 1)) }
+    ensures next { depth + 1 < k → Moved (F.means field.now) region root (cells_at curves.old depth) (cells_at curves.new (depth + 1)) }
 {
     if depth + 1 < k {
         curves[depth + 1] = curves[depth];
@@ -148,13 +148,13 @@ fn descend<F: Field>(
     buf: &mut [u8],
     tally: &mut Tally,
 )
-    requires descent { Descent (means field.now) search region xs.now ys.now depth (take depth prefix.old) (cells_at curves.old depth) }
+    requires descent { Descent (F.means field.now) search region xs.now ys.now depth (take depth prefix.old) (cells_at curves.old depth) }
     requires room { Room search.k (length buf.old) tally.old.count }
     ensures room { Room search.k (length buf.new) tally.new.count }
     ensures size { length buf.new ≡ length buf.old }
     ensures front { take depth prefix.new ≡ take depth prefix.old }
     ensures kept { (d : ℕ) → d < depth → cells_at curves.new d ≡ cells_at curves.old d }
-    ensures held { Adds search.k (chosen (means field.now) search.t xs.now ys.now (extended (means field.now).size (take depth prefix.old) (search.k - depth))) buf.old tally.old buf.new tally.new }
+    ensures held { Adds search.k (chosen (F.means field.now) search.t xs.now ys.now (extended (F.means field.now).size (take depth prefix.old) (search.k - depth))) buf.old tally.old buf.new tally.new }
 {
     if depth == search.k {
         keep(field, search.t, xs, ys, &prefix[..depth], buf, tally);
@@ -225,10 +225,10 @@ pub(crate) fn walk_curve<F: Field>(
     requires small { k ≤ depths }
     requires within { degree < columns }
     requires pairs { length xs.now ≤ length ys.now }
-    requires light { DegreeBelow (codes (means field.now)) columns rows (k - 1) (degree + 1) (table (means field.now) columns curve.now.cells) }
-    requires covers { (f : List ℕ) → is_row k (means field.now).size f ≡ true → t ≤ score (means field.now) xs.now ys.now f → Lies (codes (means field.now)) columns rows (table (means field.now) columns curve.now.cells) f }
-    ensures answer { result ≡ counted k (length buf.old) (recovered (means field.now) k t xs.now ys.now) }
-    ensures buffer { buf.new ≡ laid k (length buf.old) (recovered (means field.now) k t xs.now ys.now) }
+    requires light { DegreeBelow (codes (F.means field.now)) columns rows (k - 1) (degree + 1) (table (F.means field.now) columns curve.now.cells) }
+    requires covers { (f : List ℕ) → is_row k (F.means field.now).size f ≡ true → t ≤ score (F.means field.now) xs.now ys.now f → Lies (codes (F.means field.now)) columns rows (table (F.means field.now) columns curve.now.cells) f }
+    ensures answer { result ≡ counted k (length buf.old) (recovered (F.means field.now) k t xs.now ys.now) }
+    ensures buffer { buf.new ≡ laid k (length buf.old) (recovered (F.means field.now) k t xs.now ys.now) }
 {
     let region = Region {
         width: degree + 1,

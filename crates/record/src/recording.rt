@@ -19,10 +19,10 @@ pub struct Record<C: Code> {
 
 // The list on the first places of a sheet, as many as the code has.
 fn list_places<C: Code>(code: &C, sheet: &[Marks], t: usize, buffer: &mut [u8]) -> Answer
-    requires made { made code.now }
-    requires long { (means code.now).n ≤ length sheet.now }
-    ensures answer { result ≡ listed (means code.now) (sheet_of (take (means code.now).n sheet.now)) t (length buffer.old) }
-    ensures buffer { buffer.new ≡ shown (means code.now) (sheet_of (take (means code.now).n sheet.now)) t (length buffer.old) }
+    requires made { C.made code.now }
+    requires long { (C.means code.now).n ≤ length sheet.now }
+    ensures answer { result ≡ listed (C.means code.now) (sheet_of (take (C.means code.now).n sheet.now)) t (length buffer.old) }
+    ensures buffer { buffer.new ≡ shown (C.means code.now) (sheet_of (take (C.means code.now).n sheet.now)) t (length buffer.old) }
 {
     let n = code.places();
     code.list(&sheet[0..n], t, buffer)
@@ -31,10 +31,10 @@ fn list_places<C: Code>(code: &C, sheet: &[Marks], t: usize, buffer: &mut [u8]) 
 impl<C: Code> Record<C> {
     // A record in which no letter stands.
     pub fn new(code: C) -> Record<C>
-        requires made { made code }
+        requires made { C.made code }
         ensures same { result.code ≡ code }
-        ensures made { made result.code }
-        ensures blank { letters_of means result ≡ fresh (means code) }
+        ensures made { C.made result.code }
+        ensures blank { letters_of C.means result ≡ fresh (C.means code) }
     {
         let blank = Marks::new();
         Record {
@@ -45,11 +45,11 @@ impl<C: Code> Record<C> {
 
     // A letter is heard at a place. Answers how many letters then stand there. Refused where there is no such place, and then where there is no such letter.
     pub fn hear(&mut self, place: usize, letter: u8) -> Answer
-        requires made { made self.old.code }
-        ensures made { made self.new.code }
+        requires made { C.made self.old.code }
+        ensures made { C.made self.new.code }
         ensures same { self.new.code ≡ self.old.code }
-        ensures answer { result ≡ hear_says (code_of means self.old) (letters_of means self.old) place letter }
-        ensures after { letters_of means self.new ≡ heard (code_of means self.old) (letters_of means self.old) place letter }
+        ensures answer { result ≡ hear_says (code_of C.means self.old) (letters_of C.means self.old) place letter }
+        ensures after { letters_of C.means self.new ≡ heard (code_of C.means self.old) (letters_of C.means self.old) place letter }
     {
         check_letter(place, self.code.places(), letter, self.code.letters())?;
         Ok(join_letter(&mut self.sheet[place], letter))
@@ -57,11 +57,11 @@ impl<C: Code> Record<C> {
 
     // The letters of a place are struck out. Answers how many stood there. Refused where there is no such place, and then where no letter stands.
     pub fn strike(&mut self, place: usize) -> Answer
-        requires made { made self.old.code }
-        ensures made { made self.new.code }
+        requires made { C.made self.old.code }
+        ensures made { C.made self.new.code }
         ensures same { self.new.code ≡ self.old.code }
-        ensures answer { result ≡ strike_says (code_of means self.old) (letters_of means self.old) place }
-        ensures after { letters_of means self.new ≡ struck (code_of means self.old) (letters_of means self.old) place }
+        ensures answer { result ≡ strike_says (code_of C.means self.old) (letters_of C.means self.old) place }
+        ensures after { letters_of C.means self.new ≡ struck (code_of C.means self.old) (letters_of C.means self.old) place }
     {
         check_place(place, self.code.places())?;
         clear_letters(&mut self.sheet[place])
@@ -69,21 +69,21 @@ impl<C: Code> Record<C> {
 
     // Lists by the code on the letters that stand. Refused, it leaves the buffer zero.
     pub fn list(&self, t: usize, buffer: &mut [u8]) -> Answer
-        requires made { made self.now.code }
-        ensures answer { result ≡ listed (code_of means self.now) (letters_of means self.now) t (length buffer.old) }
-        ensures buffer { buffer.new ≡ shown (code_of means self.now) (letters_of means self.now) t (length buffer.old) }
+        requires made { C.made self.now.code }
+        ensures answer { result ≡ listed (code_of C.means self.now) (letters_of C.means self.now) t (length buffer.old) }
+        ensures buffer { buffer.new ≡ shown (code_of C.means self.now) (letters_of C.means self.now) t (length buffer.old) }
     {
         list_places(&self.code, &self.sheet, t, buffer)
     }
 
     // One call that is given as a value, with its buffer. Hear and strike leave the buffer as it is.
     pub fn serve(&mut self, call: Call, buffer: &mut [u8]) -> Answer
-        requires made { made self.old.code }
-        ensures made { made self.new.code }
+        requires made { C.made self.old.code }
+        ensures made { C.made self.new.code }
         ensures same { self.new.code ≡ self.old.code }
-        ensures answer { result ≡ says (code_of means self.old) (letters_of means self.old) call (length buffer.old) }
-        ensures after { letters_of means self.new ≡ next (code_of means self.old) (letters_of means self.old) call }
-        ensures buffer { buffer.new ≡ left_in (code_of means self.old) (letters_of means self.old) call buffer.old }
+        ensures answer { result ≡ says (code_of C.means self.old) (letters_of C.means self.old) call (length buffer.old) }
+        ensures after { letters_of C.means self.new ≡ next (code_of C.means self.old) (letters_of C.means self.old) call }
+        ensures buffer { buffer.new ≡ left_in (code_of C.means self.old) (letters_of C.means self.old) call buffer.old }
     {
         match call {
             Call::Hear { place, letter } => self.hear(place, letter),

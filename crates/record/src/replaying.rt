@@ -35,23 +35,23 @@ impl<C: Code> Record<C> {
         end: usize,
         buffers: &mut [u8],
     )
-        requires made { made self.old.code }
+        requires made { C.made self.old.code }
         requires slot { i < length answers.old }
         requires begin { at ≤ end }
         requires end { end ≤ length buffers.old }
         ensures same { self.new.code ≡ self.old.code }
-        ensures after { letters_of means self.new ≡ next (code_of means self.old) (letters_of means self.old) call }
-        ensures answer { answers.new ≡ slice_set answers.old i (says (code_of means self.old) (letters_of means self.old) call (end - at)) }
-        ensures buffer { buffers.new ≡ take at buffers.old ++ (left_in (code_of means self.old) (letters_of means self.old) call (take (end - at) (drop at buffers.old)) ++ drop (end - at) (drop at buffers.old)) }
+        ensures after { letters_of C.means self.new ≡ next (code_of C.means self.old) (letters_of C.means self.old) call }
+        ensures answer { answers.new ≡ slice_set answers.old i (says (code_of C.means self.old) (letters_of C.means self.old) call (end - at)) }
+        ensures buffer { buffers.new ≡ take at buffers.old ++ (left_in (code_of C.means self.old) (letters_of C.means self.old) call (take (end - at) (drop at buffers.old)) ++ drop (end - at) (drop at buffers.old)) }
     {
         answers[i] = self.serve(call, &mut buffers[at..end]);
     }
 
     // All the calls that have a slot for their answer. Each list has the next of the bytes for its buffer.
     fn serve_all(&mut self, calls: &[Call], answers: &mut [Answer], buffers: &mut [u8])
-        requires made { made self.old.code }
+        requires made { C.made self.old.code }
         ensures same { self.new.code ≡ self.old.code }
-        ensures book { ByTheBook (code_of means self.old) (letters_of means self.old) calls.now answers.old buffers.old (letters_of means self.new) answers.new buffers.new }
+        ensures book { ByTheBook (code_of C.means self.old) (letters_of C.means self.old) calls.now answers.old buffers.old (letters_of C.means self.new) answers.new buffers.new }
     {
         let mut at = 0;
         for i in 0..count_served(calls, answers) {
@@ -70,11 +70,11 @@ pub fn replay<C: Code>(
     answers: &mut [Answer],
     buffers: &mut [u8],
 ) -> Record<C>
-    requires made { made code }
+    requires made { C.made code }
     ensures same { result.code ≡ code }
-    ensures made { made result.code }
-    ensures book { ByTheBook (means code) (fresh (means code)) calls.now answers.old buffers.old (letters_of means result) answers.new buffers.new }
-    ensures promise { Promise (means code) (served calls.now answers.old) answers.new (length buffers.old) buffers.new (letters_of means result) }
+    ensures made { C.made result.code }
+    ensures book { ByTheBook (C.means code) (fresh (C.means code)) calls.now answers.old buffers.old (letters_of C.means result) answers.new buffers.new }
+    ensures promise { Promise (C.means code) (served calls.now answers.old) answers.new (length buffers.old) buffers.new (letters_of C.means result) }
 {
     let mut record = Record::new(code);
     record.serve_all(calls, answers, buffers);

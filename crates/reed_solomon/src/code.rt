@@ -40,7 +40,7 @@ fn is_shaped(q: usize, n: usize, k: usize) -> bool
 // Fills in the values of the message's polynomial at the elements with codes from 0 on.
 pub(crate) fn write_values<F: Field>(field: &F, message: &[u8], word: &mut [u8])
     requires { length word.old ≤ 256 }
-    ensures { word.new ≡ word_at (F.Field.means field.now) (span 0 (length word.old)) message.now }
+    ensures { word.new ≡ word_at (F.means field.now) (span 0 (length word.old)) message.now }
 {
     for i in 0..word.len() {
         word[i] = value(field, message, i as u8);
@@ -65,8 +65,8 @@ pub(crate) fn least_of(n: usize, k: usize) -> usize
 impl<F: Field + Drop> ReedSolomon<F> {
     // The code, where n and k lie in their limits.
     pub fn new(field: F, n: usize, k: usize) -> Result<ReedSolomon<F>, Fault>
-        ensures answer { result ≡ making F.Field.means field n k }
-        ensures made { elim result [ Ok c ↦ Made F.Field.means c | Err e ↦ Unit {0} ] }
+        ensures answer { result ≡ making F.means field n k }
+        ensures made { elim result [ Ok c ↦ Made F.means c | Err e ↦ Unit {0} ] }
     {
         let q = field.size() as usize;
         if is_shaped(q, n, k) {
@@ -80,7 +80,7 @@ impl<F: Field + Drop> ReedSolomon<F> {
 impl<F: Field> ReedSolomon<F> {
     // Whether this is a sheet of n places, with letters of the field.
     pub(crate) fn has_sheet(&self, sheet: &[Marks]) -> bool
-        ensures { result ≡ is_sheet (meaning_of F.Field.means self.now) (sheet_of sheet.now) }
+        ensures { result ≡ is_sheet (meaning_of F.means self.now) (sheet_of sheet.now) }
     {
         is_sheet(sheet, self.n, self.field.size() as usize)
     }
@@ -94,12 +94,12 @@ impl<F: Field> ReedSolomon<F> {
 
     // Lists through a fitting: the letters of the sheet are its pairs, and the load its limit.
     pub(crate) fn recover(&self, sheet: &[Marks], t: usize, buf: &mut [u8]) -> Result<usize, Fault>
-        requires made { Made F.Field.means self.now }
-        requires whole { is_sheet (meaning_of F.Field.means self.now) (sheet_of sheet.now) ≡ true }
+        requires made { Made F.means self.now }
+        requires whole { is_sheet (meaning_of F.means self.now) (sheet_of sheet.now) ≡ true }
         requires low { 1 ≤ t }
         requires high { t ≤ self.now.n }
-        ensures answer { result ≡ reached self.now.k (length buf.old) (listing (meaning_of F.Field.means self.now) (sheet_of sheet.now) t) ((meaning_of F.Field.means self.now).reach (sheet_of sheet.now) t) }
-        ensures buffer { buf.new ≡ laid (length buf.old) (listing (meaning_of F.Field.means self.now) (sheet_of sheet.now) t) result }
+        ensures answer { result ≡ reached self.now.k (length buf.old) (listing (meaning_of F.means self.now) (sheet_of sheet.now) t) ((meaning_of F.means self.now).reach (sheet_of sheet.now) t) }
+        ensures buffer { buf.new ≡ laid (length buf.old) (listing (meaning_of F.means self.now) (sheet_of sheet.now) t) result }
     {
         match open(self.k, t, load(sheet)) {
             Ok(plan) => {

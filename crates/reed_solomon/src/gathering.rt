@@ -11,11 +11,11 @@ use sheet::Marks;
 
 // Offers the pair where the letter stands.
 fn offer<F: Field>(fitting: &mut Gathering<F>, point: u8, letter: u8, standing: bool)
-    requires made { Gathered (F.Field.means fitting.old.field.now) fitting.old.plan.limit (points_of fitting.old.pairs) (values_of fitting.old.pairs) }
-    ensures held { (points_of fitting.new.pairs, values_of fitting.new.pairs) ≡ fed (F.Field.means fitting.old.field.now) fitting.old.plan.limit (points_of fitting.old.pairs, values_of fitting.old.pairs) (at_point point (if standing then letter ∷ [] else [])) }
+    requires made { Gathered (F.means fitting.old.field.now) fitting.old.plan.limit (points_of fitting.old.pairs) (values_of fitting.old.pairs) }
+    ensures held { (points_of fitting.new.pairs, values_of fitting.new.pairs) ≡ fed (F.means fitting.old.field.now) fitting.old.plan.limit (points_of fitting.old.pairs, values_of fitting.old.pairs) (at_point point (if standing then letter ∷ [] else [])) }
     ensures plan { fitting.new.plan ≡ fitting.old.plan }
     ensures field { fitting.new.field.now ≡ fitting.old.field.now }
-    ensures made { Gathered (F.Field.means fitting.new.field.now) fitting.new.plan.limit (points_of fitting.new.pairs) (values_of fitting.new.pairs) }
+    ensures made { Gathered (F.means fitting.new.field.now) fitting.new.plan.limit (points_of fitting.new.pairs) (values_of fitting.new.pairs) }
 {
     if standing {
         let _ = fitting.take(point, letter);
@@ -24,11 +24,11 @@ fn offer<F: Field>(fitting: &mut Gathering<F>, point: u8, letter: u8, standing: 
 
 // Offers the letters of one place, in rising order.
 fn offer_place<F: Field>(fitting: &mut Gathering<F>, point: u8, marks: Marks)
-    requires made { Gathered (F.Field.means fitting.old.field.now) fitting.old.plan.limit (points_of fitting.old.pairs) (values_of fitting.old.pairs) }
-    ensures held { (points_of fitting.new.pairs, values_of fitting.new.pairs) ≡ fed (F.Field.means fitting.old.field.now) fitting.old.plan.limit (points_of fitting.old.pairs, values_of fitting.old.pairs) (at_point point (letters (stands marks) 256)) }
+    requires made { Gathered (F.means fitting.old.field.now) fitting.old.plan.limit (points_of fitting.old.pairs) (values_of fitting.old.pairs) }
+    ensures held { (points_of fitting.new.pairs, values_of fitting.new.pairs) ≡ fed (F.means fitting.old.field.now) fitting.old.plan.limit (points_of fitting.old.pairs, values_of fitting.old.pairs) (at_point point (letters (stands marks) 256)) }
     ensures plan { fitting.new.plan ≡ fitting.old.plan }
     ensures field { fitting.new.field.now ≡ fitting.old.field.now }
-    ensures made { Gathered (F.Field.means fitting.new.field.now) fitting.new.plan.limit (points_of fitting.new.pairs) (values_of fitting.new.pairs) }
+    ensures made { Gathered (F.means fitting.new.field.now) fitting.new.plan.limit (points_of fitting.new.pairs) (values_of fitting.new.pairs) }
 {
     for l in 0..256u16 {
         offer(fitting, point, l as u8, marks.contains(l as u8));
@@ -37,12 +37,12 @@ fn offer_place<F: Field>(fitting: &mut Gathering<F>, point: u8, marks: Marks)
 
 // Offers the letters of every place, whose point is the element with the place's code.
 pub(crate) fn offer_sheet<F: Field>(fitting: &mut Gathering<F>, sheet: &[Marks])
-    requires made { Gathered (F.Field.means fitting.old.field.now) fitting.old.plan.limit (points_of fitting.old.pairs) (values_of fitting.old.pairs) }
+    requires made { Gathered (F.means fitting.old.field.now) fitting.old.plan.limit (points_of fitting.old.pairs) (values_of fitting.old.pairs) }
     requires short { length sheet.now ≤ 256 }
-    ensures held { (points_of fitting.new.pairs, values_of fitting.new.pairs) ≡ fed (F.Field.means fitting.old.field.now) fitting.old.plan.limit (points_of fitting.old.pairs, values_of fitting.old.pairs) (pairs_of (span 0 (length sheet.now)) (sheet_of sheet.now)) }
+    ensures held { (points_of fitting.new.pairs, values_of fitting.new.pairs) ≡ fed (F.means fitting.old.field.now) fitting.old.plan.limit (points_of fitting.old.pairs, values_of fitting.old.pairs) (pairs_of (span 0 (length sheet.now)) (sheet_of sheet.now)) }
     ensures plan { fitting.new.plan ≡ fitting.old.plan }
     ensures field { fitting.new.field.now ≡ fitting.old.field.now }
-    ensures made { Gathered (F.Field.means fitting.new.field.now) fitting.new.plan.limit (points_of fitting.new.pairs) (values_of fitting.new.pairs) }
+    ensures made { Gathered (F.means fitting.new.field.now) fitting.new.plan.limit (points_of fitting.new.pairs) (values_of fitting.new.pairs) }
 {
     for i in 0..sheet.len() {
         offer_place(fitting, i as u8, sheet[i]);

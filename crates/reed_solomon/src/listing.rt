@@ -65,9 +65,9 @@ impl<F: Field> Code for ReedSolomon<F> {
 
     // As every code lists, and never more than fifteen.
     fn list(&self, sheet: &[Marks], t: usize, buf: &mut [u8]) -> Result<usize, Fault>
-        requires made { Made F.Field.means self.now }
-        ensures answer { result ≡ listed (meaning_of F.Field.means self.now) (sheet_of sheet.now) t (length buf.old) }
-        ensures buffer { buf.new ≡ shown (meaning_of F.Field.means self.now) (sheet_of sheet.now) t (length buf.old) }
+        requires made { Made F.means self.now }
+        ensures answer { result ≡ listed (meaning_of F.means self.now) (sheet_of sheet.now) t (length buf.old) }
+        ensures buffer { buf.new ≡ shown (meaning_of F.means self.now) (sheet_of sheet.now) t (length buf.old) }
         ensures few { Few result }
     {
         if !self.has_sheet(sheet) {

@@ -31,7 +31,7 @@ pub scaled-requires : goal.scaled-requires
 scaled-requires g c =
     let ro = g.met.O.Code.lawful c.args.outer.now c.requires.outer in
     let ri = g.met.I.Code.lawful c.args.inner.now c.requires.inner in
-    let p = above_place ro ri c.requires.asked (length c.args.buf.now) (sheet_of c.lift_blocks.new.above) _ (cut _ c.places.ensures ro.sizes.n_high) c.in-default.ensures c.in-Reach.r (ap Err (sym c.in-Reach.is) ∙ c.in-Err-list.ensures.answer) in
+    let p = above_place ro ri c.requires.asked (length c.args.buf.now) (sheet_of c.lift_blocks.new.above) _ (cut _ c.places.ensures ro.sizes.n_high) c.in_default.ensures c.in-Reach.r (ap Err (sym c.in-Reach.is) ∙ c.in-Err-list.ensures.answer) in
     record { small = omega (arith, c.places-in-Reach.ensures, ri.sizes.n_high); fits = subst (λ n. c.in-Reach.r.place * n < 2 ^ 16) (sym c.places-in-Reach.ensures) (omega arith) }
 
 pub returns-in-Ok : goal.returns-in-Ok
@@ -39,7 +39,7 @@ returns-in-Ok g c =
     let ro = g.met.O.Code.lawful c.args.outer.now c.requires.outer in
     let ri = g.met.I.Code.lawful c.args.inner.now c.requires.inner in
     let e = c.in-Ok.ensures in
-    let r = says_above ro ri c.requires.asked (length c.args.buf.now) (sheet_of c.lift_blocks.new.above) _ (cut _ c.places.ensures ro.sizes.n_high) c.in-default.ensures (Ok c.in-Ok.count) c.list.new.buf e.answer e.buffer (λ x q. let z : ◌≡◌ {A = ℕ} 0 1 = cc in omega arith) in
+    let r = says_above ro ri c.requires.asked (length c.args.buf.now) (sheet_of c.lift_blocks.new.above) _ (cut _ c.places.ensures ro.sizes.n_high) c.in_default.ensures (Ok c.in-Ok.count) c.list.new.buf e.answer e.buffer (λ x q. let z : ◌≡◌ {A = ℕ} 0 1 = cc in omega arith) in
     record { answer = r.answer; buffer = r.buffer }
 
 pub returns-in-Reach : goal.returns-in-Reach
@@ -48,13 +48,13 @@ returns-in-Reach g c =
     let ri = g.met.I.Code.lawful c.args.inner.now c.requires.inner in
     let e = c.in-Err-list.ensures in
     let place = c.scaled.ensures.place ∙ ap (λ n. c.in-Reach.r.place * n) c.places-in-Reach.ensures in
-    let r = says_scaled ro ri c.requires.asked (length c.args.buf.now) (sheet_of c.lift_blocks.new.above) _ (cut _ c.places.ensures ro.sizes.n_high) c.in-default.ensures c.in-Reach.r c.scaled.result c.list.new.buf (ap Err (sym c.in-Reach.is) ∙ e.answer) e.buffer c.scaled.ensures.level place in
+    let r = says_scaled ro ri c.requires.asked (length c.args.buf.now) (sheet_of c.lift_blocks.new.above) _ (cut _ c.places.ensures ro.sizes.n_high) c.in_default.ensures c.in-Reach.r c.scaled.result c.list.new.buf (ap Err (sym c.in-Reach.is) ∙ e.answer) e.buffer c.scaled.ensures.level place in
     record { answer = r.answer; buffer = r.buffer }
 
-pub returns-in-default-f : goal.returns-in-default-f
-returns-in-default-f g c =
+pub returns-in_default-f : goal.returns-in_default-f
+returns-in_default-f g c =
     let ro = g.met.O.Code.lawful c.args.outer.now c.requires.outer in
     let ri = g.met.I.Code.lawful c.args.inner.now c.requires.inner in
     let e = c.in-Err-list.ensures in
-    let r = says_above ro ri c.requires.asked (length c.args.buf.now) (sheet_of c.lift_blocks.new.above) _ (cut _ c.places.ensures ro.sizes.n_high) c.in-default.ensures (Err c.in-Err-list.f) c.list.new.buf e.answer e.buffer (λ x q. c.in-default-f.not-Reach x (cc)) in
+    let r = says_above ro ri c.requires.asked (length c.args.buf.now) (sheet_of c.lift_blocks.new.above) _ (cut _ c.places.ensures ro.sizes.n_high) c.in_default.ensures (Err c.in-Err-list.f) c.list.new.buf e.answer e.buffer (λ x q. c.in_default-f.not-Reach x (cc)) in
     record { answer = r.answer; buffer = r.buffer }

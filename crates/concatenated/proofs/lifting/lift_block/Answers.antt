@@ -26,7 +26,7 @@ unreachable-requires g c =
     let mi = g.I.Code.means c.args.inner.now in
     let ri = g.met.I.Code.lawful c.args.inner.now c.requires.made in
     let x = lift_err mi c.args.agreement (sheet_of c.args.part.now) ri c.requires.listable c.requires.whole c.in-Err.f c.in-Err.ensures.answer in
-    c.in-default.not-Reach x.0 x.1.0
+    c.in_default.not-Reach x.0 x.1.0
 
 pub returns-in-Ok : goal.returns-in-Ok
 returns-in-Ok g c =

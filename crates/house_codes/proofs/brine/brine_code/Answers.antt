@@ -16,7 +16,7 @@ joins_well = refl
 
 pub unreachable-requires : goal.unreachable-requires
 unreachable-requires c =
-    c.in-default.not-Ok _
+    c.in_default.not-Ok _
     (joined (rs.meaning_of binary_of) (rs.meaning_of binary_of) c.binary_code-outer.result c.binary_code-inner.result 4 brine_outer brine_inner
     c.new.result c.new.ensures.answer c.binary_code-outer.ensures.means c.binary_code-inner.ensures.means joins_well)
 

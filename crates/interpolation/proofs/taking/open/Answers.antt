@@ -14,8 +14,8 @@ in_limits k t e =
     let c = and_parts (leb 1 t) _ b.1 in
     (leb-true 1 k a.0, leb-true k 16 b.0, leb-true 1 t c.0, leb-true t 64 c.1)
 
-pub invariant-of-result : goal.invariant-of-result
-invariant-of-result c =
+pub invariant_of-result : goal.invariant_of-result
+invariant_of-result c =
     let s = in_limits c.args.k c.args.t (sym c.if-not-is_shaped.ensures) in
     let found = smallest_passes (suits limits (c.args.k - 1) c.args.t c.args.limit) 1 4 c.in-Some.r (sym c.in-Some.ensures) in
     (s.0, (s.1, (s.2, (s.3, (few_pairs (c.args.k - 1) c.args.t c.args.limit c.in-Some.r found.0 found.1, (found.1, (omega (arith, found.2), (found.0, tt))))))))

@@ -10,8 +10,8 @@ loop-v-preserved g c =
     let two = (g.met.F.Field.lawful c.args.self.now.field).two in
     let h = subst (λ z. c.loop-v.v < z) c.total-v-end.ensures c.loop-v-test.true in
     elim c.if-passes.branch [
-      | then-passes w ↦ counted_yes _ _ _ c.loop-v.v c.loop-v.count (omega arith) h c.loop-v.invariant _ w.if-passes.ensures w.count_is
-      | else-passes w ↦ counted_no _ _ _ c.loop-v.v c.loop-v.count (omega arith) h c.loop-v.invariant _ w.if-passes.ensures w.count_is
+      | then-passes w ↦ counted_yes _ _ _ c.loop-v.v c.loop-v.count (omega arith) h c.loop-v.invariant _ w.if-passes.ensures w.count-is
+      | else-passes w ↦ counted_no _ _ _ c.loop-v.v c.loop-v.count (omega arith) h c.loop-v.invariant _ w.if-passes.ensures w.count-is
     ]
 
 pub returns : goal.returns

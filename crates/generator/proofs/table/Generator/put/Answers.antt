@@ -47,8 +47,8 @@ returns-then-not-passes g c =
     let r = left (meaning_of g.F.Field.means c.args.self.now) (sheet_of c.args.sheet.now) c.args.t c.args.v c.args.at c.args.buf.now c.if-not-passes.ensures in
     record { place = r.place; buffer = r.buffer }
 
-pub slice-bounds-spell-end : goal.slice-bounds-spell-end
-slice-bounds-spell-end g c =
+pub slice_bounds-spell-end : goal.slice_bounds-spell-end
+slice_bounds-spell-end g c =
     let l = long (meaning_of g.F.Field.means c.args.self.now) (sheet_of c.args.sheet.now) c.args.t c.args.v c.args.at c.args.buf.now c.if-not-passes.ensures in
     omega (arith, c.requires.room)
 
