@@ -70,7 +70,8 @@ impl Table {
 
     // The weighted degree of the lead of curve j. The curve is live while that is `degree` at most.
     fn lead_degree(&self, j: usize) -> usize
-        requires { (self.now.weight < rows) × (j < rows) }
+        requires weight { self.now.weight < rows }
+        requires row { j < rows }
         ensures { result ≡ (led self.now.curves j).lead + self.now.weight * j }
     {
         self.curves[j].lead as usize + self.weight * j
@@ -78,7 +79,8 @@ impl Table {
 
     // The place of the lead of curve j in the order of the monomials: by weighted degree, then by the power of y.
     fn key(&self, j: usize) -> usize
-        requires { (self.now.weight < rows) × (j < rows) }
+        requires weight { self.now.weight < rows }
+        requires row { j < rows }
         ensures { result ≡ key_of self.now.weight self.now.curves j }
     {
         ROWS * (self.curves[j].lead as usize + self.weight * j) + j
@@ -86,7 +88,11 @@ impl Table {
 
     // The discrepancy of curve j under the weights; a curve that is not live is passed over.
     fn value_at<F: Field>(&self, field: &F, wx: &[u8], wy: &[u8], j: usize) -> u8
-        requires { (self.now.weight < rows) × ((self.now.degree < columns) × ((self.now.degree < length wx.now) × ((rows ≤ length wy.now) × (j < rows)))) }
+        requires weight { self.now.weight < rows }
+        requires degree { self.now.degree < columns }
+        requires wide { self.now.degree < length wx.now }
+        requires high { rows ≤ length wy.now }
+        requires row { j < rows }
         ensures { Valued (F.means field.now) self.now.weight self.now.degree wx.now wy.now (led self.now.curves j) j result }
     {
         let degree = self.lead_degree(j);
@@ -99,7 +105,10 @@ impl Table {
 
     // The discrepancies of all curves.
     fn values<F: Field>(&self, field: &F, wx: &[u8], wy: &[u8]) -> [u8; ROWS]
-        requires { (self.now.weight < rows) × ((self.now.degree < columns) × ((self.now.degree < length wx.now) × (rows ≤ length wy.now))) }
+        requires weight { self.now.weight < rows }
+        requires degree { self.now.degree < columns }
+        requires wide { self.now.degree < length wx.now }
+        requires high { rows ≤ length wy.now }
         ensures size { length result ≡ rows }
         ensures each { (j : ℕ) → j < rows → Valued (F.means field.now) self.now.weight self.now.degree wx.now wy.now (led self.now.curves j) j (at result j) }
     {
@@ -129,7 +138,11 @@ impl Table {
 
     // A multiple of the pivot is taken off the other curves that fail, and the pivot is multiplied by x - a.
     fn apply<F: Field>(&mut self, field: &F, a: u8, p: usize, ds: &[u8; ROWS])
-        requires { (self.old.weight < rows) × ((self.old.degree < columns) × ((p < rows) × (((led self.old.curves p).lead < columns) × (((j : ℕ) → j < rows → at ds.now j ≢ 0 → (led self.old.curves j).lead + self.old.weight * j < columns))))) }
+        requires weight { self.old.weight < rows }
+        requires degree { self.old.degree < columns }
+        requires row { p < rows }
+        requires lead { (led self.old.curves p).lead < columns }
+        requires room { (j : ℕ) → j < rows → at ds.now j ≢ 0 → (led self.old.curves j).lead + self.old.weight * j < columns }
         ensures applied { Applied (F.means field.now) self.old.weight self.old.degree a p ds.now self.old.curves self.new.curves }
         ensures weight { self.new.weight ≡ self.old.weight }
         ensures degree { self.new.degree ≡ self.old.degree }
@@ -153,7 +166,10 @@ impl Table {
 
     // One step of the method, at the condition whose weights are given.
     fn step<F: Field>(&mut self, field: &F, a: u8, wx: &[u8], wy: &[u8])
-        requires { (self.old.weight < rows) × ((self.old.degree < columns) × ((self.old.degree < length wx.now) × (rows ≤ length wy.now))) }
+        requires weight { self.old.weight < rows }
+        requires degree { self.old.degree < columns }
+        requires wide { self.old.degree < length wx.now }
+        requires high { rows ≤ length wy.now }
         ensures stepped { (b u w : ℕ) → Weighed (F.means field.now) a u (self.old.degree + 1) wx.now → Weighed (F.means field.now) b w rows wy.now → Bounded (F.means field.now) self.old.weight self.old.degree self.old.curves → Stepped (F.means field.now) self.old.weight self.old.degree a b u w self.old.curves self.new.curves }
         ensures weight { self.new.weight ≡ self.old.weight }
         ensures degree { self.new.degree ≡ self.old.degree }
@@ -177,9 +193,13 @@ impl Table {
         first: &[u8; COLUMNS],
         wy: &[u8; ROWS],
     )
-        requires weight_lt_rows { (self.old.weight < rows) × ((self.old.degree < columns) × ((w < r) × (t < length xs.now))) }
-        requires weighed { (Weighed (F.means field.now) (at xs.now t) 0 (self.old.degree + 1) first.now) × (Weighed (F.means field.now) (at ys.now t) w rows wy.now) }
-        requires columns_met { ColumnsMet (F.means field.now) self.old.weight self.old.degree r xs.now ys.now t w self.old.curves }
+        requires weight { self.old.weight < rows }
+        requires degree { self.old.degree < columns }
+        requires order { w < r }
+        requires point { t < length xs.now }
+        requires first { Weighed (F.means field.now) (at xs.now t) 0 (self.old.degree + 1) first.now }
+        requires second { Weighed (F.means field.now) (at ys.now t) w rows wy.now }
+        requires met { ColumnsMet (F.means field.now) self.old.weight self.old.degree r xs.now ys.now t w self.old.curves }
         ensures met { ColumnsMet (F.means field.now) self.old.weight self.old.degree r xs.now ys.now t (w + 1) self.new.curves }
         ensures weight { self.new.weight ≡ self.old.weight }
         ensures degree { self.new.degree ≡ self.old.degree }
@@ -194,8 +214,11 @@ impl Table {
 
     // The conditions of multiplicity r at pair t.
     fn meet_pair<F: Field>(&mut self, field: &F, r: usize, xs: &[u8], ys: &[u8], t: usize)
-        requires weight_lt_rows { (self.old.weight < rows) × ((self.old.degree < columns) × ((t < length xs.now) × (t < length ys.now))) }
-        requires pairs_met { PairsMet (F.means field.now) self.old.weight self.old.degree r xs.now ys.now t self.old.curves }
+        requires weight { self.old.weight < rows }
+        requires degree { self.old.degree < columns }
+        requires point { t < length xs.now }
+        requires value { t < length ys.now }
+        requires met { PairsMet (F.means field.now) self.old.weight self.old.degree r xs.now ys.now t self.old.curves }
         ensures met { PairsMet (F.means field.now) self.old.weight self.old.degree r xs.now ys.now (t + 1) self.new.curves }
         ensures weight { self.new.weight ≡ self.old.weight }
         ensures degree { self.new.degree ≡ self.old.degree }
@@ -212,7 +235,10 @@ impl Table {
 
     // The conditions of multiplicity r at every pair.
     fn meet<F: Field>(&mut self, field: &F, r: usize, xs: &[u8], ys: &[u8])
-        requires { (self.old.weight < rows) × ((self.old.degree < columns) × ((length xs.now ≤ length ys.now) × (Fresh self.old.curves))) }
+        requires weight { self.old.weight < rows }
+        requires degree { self.old.degree < columns }
+        requires pairs { length xs.now ≤ length ys.now }
+        requires fresh { Fresh self.old.curves }
         ensures met { PairsMet (F.means field.now) self.old.weight self.old.degree r xs.now ys.now (length xs.now) self.new.curves }
         ensures weight { self.new.weight ≡ self.old.weight }
         ensures degree { self.new.degree ≡ self.old.degree }
@@ -247,7 +273,10 @@ pub(crate) fn interpolate<F: Field>(
     xs: &[u8],
     ys: &[u8],
 ) -> Curve
-    requires { (weight < rows) × ((degree < columns) × ((length xs.now ≤ length ys.now) × (length xs.now * r * (r + 1) / 2 < monomials rows weight degree))) }
+    requires weight { weight < rows }
+    requires degree { degree < columns }
+    requires pairs { length xs.now ≤ length ys.now }
+    requires counted { length xs.now * r * (r + 1) / 2 < monomials rows weight degree }
     ensures { Fitted (codes (F.means field.now)) columns rows weight degree r (length xs.now) (at xs.now) (at ys.now) (curve-table (F.means field.now) columns result.cells) }
 {
     let mut table = Table::new(weight, degree);

@@ -21,7 +21,8 @@ pub(crate) struct LedCurve {
 
 // How many rows have a coefficient of weighted degree `degree` at most.
 fn height(weight: usize, degree: usize) -> usize
-    requires { (weight < rows) × (degree < columns) }
+    requires weight { weight < rows }
+    requires degree { degree < columns }
     ensures low { result ≤ rows }
     ensures rest { (j : ℕ) → result ≤ j → j < rows → degree < weight * j }
 {
@@ -42,7 +43,10 @@ pub(crate) fn value<F: Field>(
     wy: &[u8],
     curve: &Curve,
 ) -> u8
-    requires { (weight < rows) × ((degree < columns) × ((degree < length wx.now) × (rows ≤ length wy.now))) }
+    requires weight { weight < rows }
+    requires degree { degree < columns }
+    requires wide { degree < length wx.now }
+    requires high { rows ≤ length wy.now }
     ensures { (a b u w : ℕ) → Weighed (F.means field.now) a u (degree + 1) wx.now → Weighed (F.means field.now) b w rows wy.now → DegreeBelow (codes (F.means field.now)) columns rows weight (suc degree) (table (F.means field.now) columns curve.now.cells) → result ≡ discrepancy (codes (F.means field.now)) columns rows a b u w (table (F.means field.now) columns curve.now.cells) }
 {
     let mut sum = 0;
@@ -67,7 +71,10 @@ fn mix_cells<F: Field>(
     e: u8,
     pivot: &[u8],
 )
-    requires { (weight < rows) × ((degree < columns) × ((length cells.old ≡ all) × (length pivot.now ≡ all))) }
+    requires weight { weight < rows }
+    requires degree { degree < columns }
+    requires cells { length cells.old ≡ all }
+    requires pivot { length pivot.now ≡ all }
     ensures { Changed weight degree rows (mixed_cell (F.means field.now) d cells.old e pivot.now) cells.old cells.new }
 {
     for j in 0..height(weight, degree) {
@@ -85,7 +92,9 @@ fn mix_cells<F: Field>(
 
 // x - a times a curve, in its place.
 fn lift_cells<F: Field>(field: &F, weight: usize, degree: usize, a: u8, cells: &mut [u8])
-    requires { (weight < rows) × ((degree < columns) × (length cells.old ≡ all)) }
+    requires weight { weight < rows }
+    requires degree { degree < columns }
+    requires cells { length cells.old ≡ all }
     ensures { Changed weight degree rows (lifted_cell (F.means field.now) a cells.old) cells.old cells.new }
 {
     for j in 0..height(weight, degree) {
@@ -105,7 +114,9 @@ pub(crate) fn mix<F: Field>(
     e: u8,
     pivot: &Curve,
 )
-    requires { (weight < rows) × ((j < rows) × ((e ≢ 0 → led.old.lead + weight * j < columns))) }
+    requires weight { weight < rows }
+    requires row { j < rows }
+    requires room { e ≢ 0 → led.old.lead + weight * j < columns }
     ensures { Taken (F.means field.now) weight j d e pivot.now.cells led.old led.new }
 {
     if e != 0 {
@@ -131,7 +142,10 @@ pub(crate) fn lift<F: Field>(
     led: &mut LedCurve,
     a: u8,
 )
-    requires { (weight < rows) × ((most < columns) × ((j < rows) × (led.old.lead < columns))) }
+    requires weight { weight < rows }
+    requires most { most < columns }
+    requires row { j < rows }
+    requires lead { led.old.lead < columns }
     ensures lead { led.new.lead ≡ suc led.old.lead }
     ensures cells { led.new.lead + weight * j ≤ most → Changed weight (led.new.lead + weight * j) rows (lifted_cell (F.means field.now) a led.old.curve.cells) led.old.curve.cells led.new.curve.cells }
 {

@@ -10,7 +10,9 @@ use field::Field;
 
 // How many coefficients of row j have weighted degree `degree` at most.
 pub(crate) fn width(weight: usize, degree: usize, j: usize) -> usize
-    requires { (weight < rows) × ((degree < columns) × (j < rows)) }
+    requires weight { weight < rows }
+    requires degree { degree < columns }
+    requires row { j < rows }
     ensures { result ≡ width weight degree j }
 {
     if weight * j <= degree {

@@ -104,7 +104,8 @@ fn numbers_of_two<O: Code, I: Code>(
     sheet: &[Marks],
     t: usize,
 ) -> Result<Marks, Fail>
-    requires made { (O.made outer.now) × (I.made inner.now) }
+    requires outer { O.made outer.now }
+    requires inner { I.made inner.now }
 {
     let n = outer.places();
     assert!(rt; n <= MOST_PLACES);
@@ -222,7 +223,8 @@ fn lift_two<O: Code, I: Code>(
     sheet: &[Marks],
     lifted: &mut [Marks],
 ) -> Result<(), Fail>
-    requires made { (O.made outer.now) × (I.made inner.now) }
+    requires outer { O.made outer.now }
+    requires inner { I.made inner.now }
 {
     for b in 0..lifted.len() {
         lifted[b] = numbers_of_two(rt, outer, 15, inner, 3, a, block_of(sheet, b, 12), middle)?;

@@ -18,4 +18,13 @@ pub invariant_of-result : goal.invariant_of-result
 invariant_of-result c =
     let s = in_limits c.args.k c.args.t (sym c.if-not-is_shaped.ensures) in
     let found = smallest_passes (suits limits (c.args.k - 1) c.args.t c.args.limit) 1 4 c.in-Some.r (sym c.in-Some.ensures) in
-    (s.0, (s.1, (s.2, (s.3, (few_pairs (c.args.k - 1) c.args.t c.args.limit c.in-Some.r found.0 found.1, (found.1, (omega (arith, found.2), (found.0, tt))))))))
+    record {
+      k_low = s.0;
+      k_high = s.1;
+      t_low = s.2;
+      t_high = s.3;
+      few = few_pairs (c.args.k - 1) c.args.t c.args.limit c.in-Some.r found.0 found.1;
+      r_low = found.1;
+      r_high = omega (arith, found.2);
+      counted = found.0;
+    }

@@ -99,7 +99,7 @@ loop-root-preserved g t c =
             w.descend.ensures.held,
         front_kept c.loop-root.prefix c.args.prefix.now c.if-is_root.prefix w.descend.new.prefix depth c.loop-root.root w.prefix-is w.descend.ensures.front c.loop-root.invariant.1,
         subst₂ (λ b (s : Tally). Room c.args.search.k (length b) s.count) (sym w.buf-is) (sym w.tally-is) w.descend.ensures.room,
-        c.if-is_root.array-long2,
+        c.if-is_root.array_long2,
         c.if-is_root.array_long,
         λ d h. ap (λ x. cells_at x d) w.curves-is ∙ w.descend.ensures.kept d (omega arith) ∙ w.step.ensures.kept d h ∙ c.loop-root.invariant.5 d h,
       )
@@ -111,7 +111,7 @@ loop-root-preserved g t c =
             c.loop-root.root (omega (arith, c.size-root-end.ensures, c.loop-root-test.true)) (sym w.if-is_root.false ∙ c.is_root.ensures)),
         ap (take depth) w.prefix-is ∙ c.loop-root.invariant.1,
         subst₂ (λ b (s : Tally). Room c.args.search.k (length b) s.count) (sym w.buf-is) (sym w.tally-is) c.loop-root.invariant.2,
-        c.if-is_root.array-long2,
+        c.if-is_root.array_long2,
         c.if-is_root.array_long,
         λ d h. ap (λ x. cells_at x d) w.curves-is ∙ c.loop-root.invariant.5 d h,
       )

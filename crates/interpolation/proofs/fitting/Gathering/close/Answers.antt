@@ -16,16 +16,13 @@ interpolate-curve-requires g c =
     let m = more_monomials (c.args.self.plan.k - 1) c.args.self.plan.t c.args.self.plan.limit c.args.self.plan.r c.args.self.plan.counted in
     let n = conditions_le (length (points_of c.args.self.pairs)) c.args.self.plan.limit c.args.self.plan.r few in
     let low = c.args.self.plan.k_low in
-    let high = c.args.self.plan.k_high in (
-      omega arith,
-      (
-        omega arith,
-        (
-          omega arith,
-          subst₂ (λ u v. u * c.args.self.plan.r * (c.args.self.plan.r + 1) / 2 < monomials 16 (c.args.self.plan.k - 1) v) (sym px) (sym d) (omega (arith, n, m)),
-        ),
-      ),
-    )
+    let high = c.args.self.plan.k_high in
+    record {
+      weight = omega arith;
+      degree = omega arith;
+      pairs = omega arith;
+      counted = subst₂ (λ u v. u * c.args.self.plan.r * (c.args.self.plan.r + 1) / 2 < monomials 16 (c.args.self.plan.k - 1) v) (sym px) (sym d) (omega (arith, n, m));
+    }
 
 pub returns : goal.returns
 returns g c = record {

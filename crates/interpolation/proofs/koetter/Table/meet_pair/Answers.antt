@@ -5,8 +5,8 @@ use Rattle.interpolation.proofs.koetter.Table.meet_pair.Goals as goal
 
 pub loop-w-init : goal.loop-w-init
 loop-w-init g c = (
-  columns_none (g.F.Field.means c.args.field.now) (g.met.F.Field.lawful c.args.field.now) c.args.self.now.weight c.args.self.now.degree c.args.r c.requires.0.1.0
-      c.args.xs.now c.args.ys.now c.args.t c.args.self.now.curves c.requires.1,
+  columns_none (g.F.Field.means c.args.field.now) (g.met.F.Field.lawful c.args.field.now) c.args.self.now.weight c.args.self.now.degree c.args.r c.requires.degree
+      c.args.xs.now c.args.ys.now c.args.t c.args.self.now.curves c.requires.met,
   c.powers-2.ensures,
   refl,
   refl,
@@ -30,7 +30,7 @@ returns g c =
     let F = g.F.Field.means c.args.field.now in
     let e : c.loop-w.w ≡ c.args.r = omega arith in
     record {
-      met = pairs_more F (g.met.F.Field.lawful c.args.field.now) c.args.self.now.weight c.args.self.now.degree c.args.r c.requires.0.1.0
+      met = pairs_more F (g.met.F.Field.lawful c.args.field.now) c.args.self.now.weight c.args.self.now.degree c.args.r c.requires.degree
           c.args.xs.now c.args.ys.now c.args.t c.loop-w.self.curves
           (subst (λ w. ColumnsMet F c.args.self.now.weight c.args.self.now.degree c.args.r c.args.xs.now c.args.ys.now c.args.t w c.loop-w.self.curves) e c.loop-w.invariant.0);
       weight = c.loop-w.invariant.2;

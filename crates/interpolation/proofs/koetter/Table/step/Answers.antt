@@ -17,7 +17,13 @@ apply-requires g c =
     fails_live (g.F.Field.means c.args.field.now) (g.met.F.Field.lawful c.args.field.now) c.args.self.now.weight c.args.self.now.degree c.args.wx.now c.args.wy.now
     (led cs j) j (at c.values-ds.result j) (c.values-ds.ensures.each j h) off in
     let live = fails p lt (c.choose-p.ensures.off lt) in
-    (c.requires.0, (c.requires.1.0, (lt, ((let q : (led cs p).lead < columns = omega arith in q), λ j h off. small (fails j h off) c.requires.1.0))))
+    record {
+      weight = c.requires.weight;
+      degree = c.requires.degree;
+      row = lt;
+      lead = omega arith;
+      room = λ j h off. small (fails j h off) c.requires.degree;
+    }
 
 pub returns-then-p-lt-ROWS : goal.returns-then-p-lt-ROWS
 returns-then-p-lt-ROWS g c =
