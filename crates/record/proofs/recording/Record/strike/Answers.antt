@@ -6,7 +6,7 @@ use Rattle.record.proofs.recording.Record.strike.Goals as goal
 pub bounds-self-place : goal.bounds-self-place
 bounds-self-place g c =
     let high = (g.met.C.Code.lawful c.args.self.now.code c.requires.made).sizes.n_high in
-    let t = place_passes c.args.place c.places.result _ c.in-ok-check_place.ensures in
+    let t = place_passes c.args.place c.places.result _ c.in_ok-check_place.ensures in
     omega (arith, t, c.places.ensures)
 
 pub returns : goal.returns
@@ -14,7 +14,7 @@ returns g c =
     let m = g.C.Code.means c.args.self.now.code in
     let marks = c.args.self.now.sheet in
     let high = (g.met.C.Code.lawful c.args.self.now.code c.requires.made).sizes.n_high in
-    let t = place_passes c.args.place c.places.result _ c.in-ok-check_place.ensures in
+    let t = place_passes c.args.place c.places.result _ c.in_ok-check_place.ensures in
     let lp : c.args.place < m.n = omega (arith, t, c.places.ensures) in
     let long : m.n ≤ length marks = let e : length marks ≡ 240 = search rules in omega arith in
     record {
