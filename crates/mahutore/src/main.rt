@@ -74,7 +74,7 @@ fn print_answer(rt: &HostRuntime, call: Call, answer: Answer) -> io::Result<()> 
 
 // Serves all the calls in one run, and prints the answers and the lists.
 fn serve<C: Code + Drop>(rt: &HostRuntime, code: C, task: &Task) -> anyhow::Result<()>
-    requires made { made code }
+    requires made { C.made code }
 {
     let heap = rt.alloc();
     let dimension = code.dimension();

@@ -4,6 +4,6 @@ use Rattle.hearings.proofs.lines.put_message.Goals as goal
 
 pub returns : goal.returns
 returns c = record {
-  wrote = wrote_both c.put-letters_end.ensures.wrote c.end_line.ensures;
+  wrote = wrote_both c.put_letters-end.ensures.wrote c.end_line.ensures;
   bound = omega (arith, c.end_line.ensures.ends);
 }
