@@ -1,5 +1,5 @@
 -- The fields of 2^m elements: one proof over m and the modulus, from the tests.
-use Rattle.std.proofs.Common.{◌≡◌, ℕ, zero, suc, ◌-◌, ◌*◌, ◌/◌, ◌%◌, ◌^◌, ◌<◌, ◌≤◌, ◌||◌, T, eqb, ltb, leb, ◌⊎◌, sym, refl, ap, ◌∙◌, subst, ⊎_elim, one-mul, zero-mul, arith, eqb→eq, ltb→lt, leb→le, pow_pos, pow_mono}
+use Rattle.std.proofs.Common.{◌≡◌, ℕ, zero, suc, ◌-◌, ◌*◌, ◌/◌, ◌%◌, ◌^◌, ◌<◌, ◌≤◌, ◌||◌, T, eqb, ltb, leb, sym, refl, ap, ◌∙◌, subst, ⊎_elim, one-mul, zero-mul, arith, eqb→eq, ltb→lt, leb→le, pow_pos, pow_mono}
 use lib.Bits.{bit_xor, xor_lt, xor_zero_r, xor_self, xor_comm, xor_assoc}
 use Rattle.algebra.specs.Field.{Laws}
 use Rattle.algebra.specs.Listed.{exponents, is_exponent}

@@ -1,5 +1,5 @@
 -- What a step of Kötter's method does to one curve: it meets the new condition, and its lead is where the step says.
-use Rattle.std.proofs.Common.{◌≡◌, ℕ, zero, suc, ◌+◌, ◌*◌, ◌<◌, ◌≢◌, ◌⊎◌, sym, refl, ap, ◌∙◌, ⊎_elim, arith}
+use Rattle.std.proofs.Common.{◌≡◌, ℕ, zero, suc, ◌+◌, ◌*◌, ◌<◌, ◌≢◌, sym, refl, ap, ◌∙◌, ⊎_elim, arith}
 use Rattle.algebra.specs.Ring.{Ops, Field}
 use Rattle.algebra.specs.Curve.{Table, discrepancy}
 use Rattle.algebra.specs.Interpolation.{key, Conditions, Ready, Closed, OneMore, Same, up, linear, mix, Good}

@@ -1,5 +1,5 @@
 -- The whole numbers modulo p: the laws of a ring at every p, and of a field at the listed ones.
-use Rattle.std.proofs.Common.{◌≡◌, ℕ, ◌+◌, ◌-◌, ◌*◌, ◌/◌, ◌%◌, ◌^◌, ◌<◌, Bool, ◌&&◌, ◌||◌, T, eqb, ltb, leb, ◌⊎◌, sym, ap, ◌∙◌, ⊎_elim, add-zero, add_assoc, mod-lt, mod-eq_of_lt, mul_assoc, mul_comm, add-mul, add_comm, zero-mul, mul-one, mul-add, arith, eqb→eq, ltb→lt, leb→le}
+use Rattle.std.proofs.Common.{◌≡◌, ℕ, ◌+◌, ◌-◌, ◌*◌, ◌/◌, ◌%◌, ◌^◌, ◌<◌, Bool, ◌&&◌, ◌||◌, T, eqb, ltb, leb, sym, ap, ◌∙◌, ⊎_elim, add-zero, add_assoc, mod-lt, mod-eq_of_lt, mul_assoc, mul_comm, add-mul, add_comm, zero-mul, mul-one, mul-add, arith, eqb→eq, ltb→lt, leb→le}
 use native.Mathlib.Nat.{zero-mod, mod-add-mod, add-mod-mod, add-mod_right, add-mul-mod_self_left, mod-add-div}
 use Rattle.algebra.specs.Listed.{prime_sizes, is_prime_size}
 use Rattle.algebra.specs.Field.{Laws}

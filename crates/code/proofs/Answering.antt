@@ -1,9 +1,9 @@
 -- What a list answers and leaves, case by case.
-use Rattle.std.proofs.Common.{◌≡◌, ℕ, ◌*◌, ◌<◌, ◌≤◌, Bool, true, false, cond, ◌&&◌, leb, List, length, replicate, Ok, Err, Result, sym, refl, ap, ◌∙◌}
+use Rattle.std.proofs.Common.{◌≡◌, ℕ, ◌*◌, ◌<◌, ◌≤◌, true, false, ◌&&◌, leb, List, length, replicate, Ok, Err, Result, sym, ap, ◌∙◌}
 use Rattle.std.proofs.lemmas.Bool.{cond-true, cond-false, and_from, le-leb, lt-leb}
 use Rattle.fault.specs.declared.Fault.{Fault}
 use Rattle.fault.specs.declared.Fault.TheVariants.{Agreement, Sheet as BadSheet, Reach as OutOfReach, Short}
-use Rattle.code.specs.Meaning.{Meaning, Verdict, within, beyond, is_sheet, listing}
+use Rattle.code.specs.Meaning.{Meaning, within, beyond, is_sheet, listing}
 use Rattle.sheet.specs.Letters.{Sheet}
 use Rattle.code.specs.Messages.{each}
 use Rattle.code.specs.Answers.{listed, shown, laid, padded, reached}

@@ -1,8 +1,8 @@
 -- What stands in a list of messages.
-use Rattle.std.proofs.Common.{◌≡◌, ℕ, zero, suc, ◌+◌, ◌<◌, ◌≤◌, min, Bool, true, false, cond, not, ◌&&◌, eqb, ltb, ◌⊎◌, List, [], ◌∷◌, ◌++◌, map, length, filter, sym, refl, ap, ◌∙◌, subst, ap₂, inl, inr, ⊎_elim, arith}
-use Rattle.std.proofs.lemmas.Bool.{and_parts, and_from, cases_eq, cases_Bool, cond-true, lt-ltb, both_ways}
-use Rattle.code.specs.Messages.{every, is_row, span, each, messages}
-use Rattle.code.proofs.Alone.{row_length, row_head, row_tail, row_cons, kept_none}
+use Rattle.std.proofs.Common.{◌≡◌, ℕ, zero, suc, ◌+◌, ◌<◌, ◌≤◌, Bool, true, false, cond, ◌⊎◌, List, [], ◌∷◌, ◌++◌, map, filter, sym, refl, ap, ◌∙◌, subst, inl, inr, ⊎_elim, arith}
+use Rattle.std.proofs.lemmas.Bool.{cases_eq, cases_Bool, cond-true}
+use Rattle.code.specs.Messages.{is_row, span, each, messages}
+use Rattle.code.proofs.Alone.{row_length, row_head, row_tail, row_cons}
 
 -- x stands in the list
 abbrev pub In : {X : Type 0} → X → List X → Type 0

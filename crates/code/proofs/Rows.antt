@@ -1,5 +1,5 @@
 -- Rows of letters, and how long a list is.
-use Rattle.std.proofs.Common.{◌≡◌, ℕ, zero, suc, ◌+◌, ◌-◌, ◌*◌, ◌<◌, ◌≤◌, Bool, true, false, cond, ◌&&◌, eqb, ltb, leb, List, [], ◌∷◌, ◌++◌, map, length, take, drop, replicate, Ok, Err, filter, Result, sym, refl, ap, ◌∙◌, subst, ⊎_elim, suc-mul, mul_comm, arith}
+use Rattle.std.proofs.Common.{◌≡◌, ℕ, zero, suc, ◌+◌, ◌-◌, ◌*◌, ◌≤◌, Bool, true, false, cond, ◌&&◌, eqb, ltb, leb, List, [], ◌∷◌, ◌++◌, map, length, take, drop, Ok, Err, filter, Result, sym, refl, ap, ◌∙◌, subst, ⊎_elim, suc-mul, mul_comm, arith}
 use Rattle.std.proofs.lemmas.List.{length-append, length-replicate}
 use Rattle.std.proofs.lemmas.Bool.{and_parts, and_from, eq-eqb, eqb-true, lt-ltb, leb-true, cases_Bool, cond-false, cond-true}
 use Rattle.fault.specs.declared.Fault.{Fault}
@@ -7,7 +7,7 @@ use Rattle.fault.specs.declared.Fault.TheVariants.{Agreement, Sheet as BadSheet,
 use Rattle.code.specs.Meaning.{Meaning, Verdict, within, beyond, is_sheet, listing}
 use Rattle.sheet.specs.Letters.{Sheet}
 use Rattle.code.specs.Messages.{every, is_row, each, span, messages}
-use Rattle.code.specs.Answers.{listed, shown, laid, padded, reached}
+use Rattle.code.specs.Answers.{listed, shown, laid, reached}
 
 pub every_append : {X : Type 0} (f : X → Bool) (xs ys : List X) → every f xs ≡ true → every f ys ≡ true → every f (xs ++ ys) ≡ true
 every_append f [] ys hx hy = hy

@@ -1,5 +1,5 @@
 -- Lists by their elements, over the numbers from a on.
-use Rattle.std.proofs.Common.{◌≡◌, ℕ, zero, suc, ◌+◌, ◌<◌, ◌≤◌, List, [], ◌∷◌, map, length, get_or, sym, refl, ap, ◌∙◌, subst, ap₂, arith}
+use Rattle.std.proofs.Common.{◌≡◌, ℕ, zero, suc, ◌+◌, ◌<◌, List, [], ◌∷◌, map, length, get_or, refl, ap, ◌∙◌, ap₂, arith}
 use Rattle.code.specs.Messages.{span}
 
 pub span_length : (a i : ℕ) → length (span a i) ≡ i

@@ -1,7 +1,6 @@
 -- One turn of `spell`, and of the pile's `encode`.
-use Rattle.std.proofs.Common.{◌≡◌, ℕ, zero, suc, ◌+◌, ◌-◌, ◌*◌, ◌/◌, ◌%◌, ◌<◌, ◌≤◌, true, eqb, List, [], ◌∷◌, ◌++◌, length, get_or, take, drop, set, sym, refl, ap, ◌∙◌, subst, mul-le-mul_right, suc-mul, add-mul, one-mul, arith}
-use Rattle.std.proofs.lemmas.List.{append_assoc, drop-set, append-nil, drop_all, take_more, length-append, take_all}
-use Rattle.std.proofs.lemmas.Bool.{cond-true, eq-eqb, eqb-true, and_parts}
+use Rattle.std.proofs.Common.{◌≡◌, ℕ, zero, suc, ◌+◌, ◌-◌, ◌/◌, ◌%◌, ◌<◌, ◌≤◌, List, [], ◌∷◌, ◌++◌, length, drop, set, sym, ap, ◌∙◌, arith}
+use Rattle.std.proofs.lemmas.List.{append_assoc, drop-set, append-nil, drop_all}
 use Rattle.code.specs.Messages.{digits}
 
 pub spell_none : (p v : ℕ) (xs : List ℕ) → digits p (length xs) v ++ drop (length xs) xs ≡ digits p (length xs) v

@@ -1,5 +1,5 @@
 -- What the calls of a code answer, and what they leave in the buffer.
-use Rattle.std.specs.Prelude.{ℕ, ◌+◌, ◌-◌, ◌*◌, Bool, true, false, cond, ◌&&◌, List, [], ◌∷◌, ◌++◌, length, replicate, Ok, Err, Result, ◌==◌, nat_le}
+use Rattle.std.specs.Prelude.{ℕ, ◌-◌, ◌*◌, cond, ◌&&◌, List, ◌++◌, length, replicate, Ok, Err, Result, ◌==◌, nat_le}
 use Rattle.fault.specs.declared.Fault.{Fault}
 use Rattle.fault.specs.declared.Fault.TheVariants.{Agreement, Sheet as BadSheet, Length, Message, Reach as OutOfReach, Short}
 use Rattle.code.specs.Meaning.{Meaning, Verdict, within, beyond, is_sheet, listing}

@@ -1,5 +1,5 @@
 -- The listing rule.
-use Rattle.std.specs.Prelude.{◌≡◌, ℕ, ◌<◌, ◌≤◌, Bool, true, false, List, [], ◌∷◌, nat_le}
+use Rattle.std.specs.Prelude.{◌≡◌, ℕ, ◌<◌, ◌≤◌, true, List, [], ◌∷◌, nat_le}
 use Rattle.code.specs.Meaning.{Meaning, Verdict, within, beyond, is_sheet, listing, clean}
 use Rattle.sheet.specs.Letters.{Sheet}
 use Rattle.code.specs.Messages.{is_row}

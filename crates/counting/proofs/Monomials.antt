@@ -1,9 +1,9 @@
 -- How many monomials there are, and the count at t = n.
-use Rattle.std.proofs.Common.{◌≡◌, ℕ, zero, suc, ◌+◌, ◌-◌, ◌*◌, ◌/◌, ◌<◌, ◌≤◌, min, Bool, true, false, cond, ◌&&◌, ltb, leb, ◌⊎◌, is_some, Some, None, Option, sym, refl, ap, ◌∙◌, subst, ap₂, inl, inr, ⊎_elim, mul-zero, mul-one, mul-div_cancel, arith}
-use Rattle.std.proofs.lemmas.Bool.{le-leb, lt-leb, lt-ltb, and_from, cond-true, cases_lt}
+use Rattle.std.proofs.Common.{◌≡◌, ℕ, zero, suc, ◌+◌, ◌-◌, ◌*◌, ◌/◌, ◌<◌, ◌≤◌, Bool, true, false, cond, is_some, Some, sym, refl, ap, ◌∙◌, subst, mul-zero, mul-one, mul-div_cancel, arith}
+use Rattle.std.proofs.lemmas.Bool.{le-leb, lt-ltb, and_from}
 use Rattle.algebra.proofs.Totals.{monomials_is}
 use Rattle.algebra.specs.Interpolation.{total, monomials}
-use Rattle.counting.specs.Counting.{Limits, suits, smallest, by_counting, in_reach}
+use Rattle.counting.specs.Counting.{Limits, suits, smallest, in_reach}
 
 pub monomials_more : (J v D : ℕ) → total (J + 1) (λ j. suc D - v * j) ≡ total J (λ j. suc D - v * j) + (suc D - v * J)
 unfolding total

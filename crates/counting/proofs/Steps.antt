@@ -1,10 +1,10 @@
 -- What the code's steps show of the counting rule.
-use Rattle.std.proofs.Common.{◌≡◌, ℕ, zero, suc, ◌+◌, ◌-◌, ◌*◌, ◌/◌, ◌^◌, ◌<◌, ◌≤◌, min, Bool, true, false, cond, ◌&&◌, ltb, leb, ◌⊎◌, is_some, Some, None, Option, sym, refl, ap, ◌∙◌, subst, ap₂, inl, inr, ⊎_elim, mul-le-mul_right, mul_assoc, mul-le-mul, mul-le-mul_left, one-mul, mul-one, mul-div_cancel, arith}
-use Rattle.std.proofs.lemmas.Bool.{le-leb, lt-leb, lt-ltb, le-ltb, and_from, and_left, and_right, cond-true, cond-false, cases_lt, cases_eq}
-use Rattle.algebra.specs.Interpolation.{total, monomials}
+use Rattle.std.proofs.Common.{◌≡◌, ℕ, suc, ◌+◌, ◌-◌, ◌*◌, ◌/◌, ◌^◌, ◌<◌, ◌≤◌, min, Bool, false, ◌&&◌, ltb, sym, ap, ◌∙◌, mul-le-mul, mul-le-mul_left, mul-one, arith}
+use Rattle.std.proofs.lemmas.Bool.{le-leb, lt-leb, le-ltb, and_left, and_right}
+use Rattle.algebra.specs.Interpolation.{monomials}
 use Rattle.counting.specs.Counting.{limits, suits}
 use Rattle.algebra.proofs.Totals.{monomials_is}
-use Rattle.counting.proofs.Monomials.{monomials_more, total_le}
+use Rattle.counting.proofs.Monomials.{total_le}
 
 pub capped : (a m v : ℕ) → a ≤ 64 → m ≡ min v (2 ^ 64 - 1) → a - m ≡ a - v
 capped a m v h e = omega arith

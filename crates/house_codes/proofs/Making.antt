@@ -1,5 +1,5 @@
 -- What a making yields where its tests pass.
-use Rattle.std.proofs.Common.{◌≡◌, ℕ, ◌*◌, true, cond, ◌&&◌, List, Ok, Err, Result, sym, ap, ◌∙◌}
+use Rattle.std.proofs.Common.{◌≡◌, ℕ, ◌*◌, true, cond, ◌&&◌, List, Ok, Err, Result, ap, ◌∙◌}
 use Rattle.std.proofs.lemmas.Bool.{cond-true}
 use Rattle.fault.specs.declared.Fault.{Fault}
 use Rattle.fault.specs.declared.Fault.TheVariants.{Join}

@@ -6,7 +6,7 @@ use Rattle.code.specs.Answers.{padded}
 use Rattle.code.specs.Meaning.{Meaning, within}
 use Rattle.code.specs.Messages.{span, messages}
 use Rattle.code.specs.Score.{hits}
-use Rattle.generator.specs.Generator.{entry, column, sum_rows, letter, gen_word, gen_distance, gen_meaning, fewest, nonzeros, blank}
+use Rattle.generator.specs.Generator.{column, sum_rows, letter, gen_word, gen_distance, gen_meaning, fewest, nonzeros, blank}
 
 zeros : (n i : ℕ) → ◌≡◌ {A = ℕ} (get_or (replicate n 0) i 0) 0
 zeros zero i = refl

@@ -1,5 +1,4 @@
 -- The values of the program's types of house codes, by what they mean.
-use Rattle.std.specs.Prelude.{◌≡◌}
 use Rattle.algebra.specs.Field.{Meaning as Field}
 use Rattle.algebra.specs.Prime.{prime}
 use Rattle.algebra.specs.Binary.{binary}

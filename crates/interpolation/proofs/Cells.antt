@@ -2,7 +2,7 @@
 use Rattle.std.proofs.Common.{◌≡◌, ℕ, suc, ◌+◌, ◌-◌, ◌*◌, ◌<◌, ◌≤◌, Bool, true, false, cond, ltb, leb, ◌≢◌, List, length, get_or, set, sym, refl, ap, ◌∙◌, subst, ⊎_elim, arith, length-set, get_or-set_other, get_or-set_same, ltb-true}
 use Rattle.std.proofs.lemmas.Bool.{cases_lt}
 use Rattle.algebra.specs.Field.{Meaning}
-use Rattle.interpolation.specs.Size.{columns, rows}
+use Rattle.interpolation.specs.Size.{columns}
 use Rattle.interpolation.specs.Steps.{cell, lowered_at, mixed_at, raised_at, RowSet, RowsSet}
 
 set_here : (l : List ℕ) (p i j v : ℕ) → p ≡ i + columns * j → p < length l → cell (set l p v) i j ≡ v

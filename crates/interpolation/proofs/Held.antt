@@ -1,6 +1,6 @@
 -- Whether a pair is among those held.
-use Rattle.std.proofs.Common.{◌≡◌, ℕ, zero, suc, ◌+◌, ◌<◌, ◌≤◌, Bool, true, false, ◌&&◌, ◌||◌, eqb, List, [], ◌∷◌, ◌++◌, length, get_or, take, sym, refl, ap, ◌∙◌, ap₂, arith}
-use Rattle.std.proofs.lemmas.Bool.{or_left, or_right, or_from, and_from, and_left, and_right, eq-eqb}
+use Rattle.std.proofs.Common.{◌≡◌, ℕ, zero, suc, ◌<◌, true, false, ◌&&◌, eqb, List, [], ◌∷◌, length, get_or, take, sym, refl, arith}
+use Rattle.std.proofs.lemmas.Bool.{or_left, or_right, or_from, and_from, eq-eqb}
 use Rattle.interpolation.specs.Fitting.{among}
 
 -- a pair among the first n

@@ -14,7 +14,7 @@ use Rattle.algebra.proofs.Runs.{live_fitted}
 use Rattle.algebra.proofs.Steps.{inv_fewer, step_none}
 use Rattle.algebra.proofs.Totals.{total_same, total_zero}
 use Rattle.interpolation.specs.declared.led.LedCurve.{LedCurve}
-use Rattle.interpolation.specs.Size.{columns, rows, cells}
+use Rattle.interpolation.specs.Size.{columns, rows}
 use Rattle.interpolation.specs.Stepped.{led, curves_of, lead_of, Bounded, Stepped, PairsMet, ColumnsMet, PlacesMet, Fresh}
 
 module _ (F : Meaning) (L : Laws F) (v D r : ℕ) (fits : D < columns) (xs ys : List ℕ) where

@@ -1,18 +1,17 @@
 -- What a fitted curve gives: the pairs taken, the polynomials through many of them, and how few they are.
-use Rattle.std.proofs.Common.{◌≡◌, ℕ, zero, suc, ◌+◌, ◌-◌, ◌*◌, ◌/◌, ◌<◌, ◌≤◌, Bool, true, false, ◌&&◌, eqb, ltb, leb, List, [], ◌∷◌, ◌++◌, length, get_or, sym, refl, ap, ◌∙◌, subst, subst₂, ⊎_elim, mul-le-mul_right, suc-mul, arith}
-use Rattle.std.proofs.lemmas.List.{length-append, length_push, get_or_append_left, get_or-append_right}
-use Rattle.std.proofs.lemmas.Bool.{and_from, and_parts, ltb-true, eq-eqb, cases_eq, cases_lt, true≢false, or_left, or_right}
+use Rattle.std.proofs.Common.{◌≡◌, ℕ, zero, suc, ◌+◌, ◌-◌, ◌*◌, ◌<◌, ◌≤◌, true, false, ◌&&◌, ltb, List, [], ◌∷◌, ◌++◌, length, get_or, sym, refl, ap, ◌∙◌, subst, subst₂, ⊎_elim, mul-le-mul_right, suc-mul, arith}
+use Rattle.std.proofs.lemmas.List.{length_push, get_or_append_left}
+use Rattle.std.proofs.lemmas.Bool.{and_from, and_parts, ltb-true, eq-eqb, cases_lt, true≢false, or_left, or_right}
 use Rattle.algebra.specs.Field.{Meaning, Laws, codes}
 use Rattle.algebra.specs.Curve.{DegreeBelow, Lies}
-use Rattle.algebra.specs.Interpolation.{monomials, Fitted}
+use Rattle.algebra.specs.Interpolation.{Fitted}
 use Rattle.algebra.specs.CodeRecovery.{Pairs, table, at, score}
 use Rattle.algebra.proofs.CodeRecovery.{code_vanishing}
-use Rattle.counting.specs.Counting.{limits, conditions, suits}
+use Rattle.counting.specs.Counting.{conditions}
 use Rattle.code.specs.Messages.{is_row}
 use Rattle.code.proofs.Alone.{row_length}
 use Rattle.interpolation.specs.Size.{columns, rows}
 use Rattle.interpolation.specs.Fitting.{among, Gathered}
-use Rattle.interpolation.proofs.Opening.{admitted, more_monomials}
 
 -- a pair that is among others
 among_here : (xs ys : List ℕ) (i x y : ℕ) → i < length xs → length xs ≡ length ys → get_or xs i 0 ≡ x → get_or ys i 0 ≡ y → among xs ys x y ≡ true

@@ -10,7 +10,7 @@ use Rattle.algebra.proofs.Carried.{some}
 use Rattle.interpolation.specs.declared.led.LedCurve.{LedCurve}
 use Rattle.interpolation.specs.Size.{columns, rows}
 use Rattle.interpolation.specs.Weighed.{Weighed}
-use Rattle.interpolation.specs.Region.{width, cell, lifted, mixed_cell, lifted_cell, Changed}
+use Rattle.interpolation.specs.Region.{width, cell, mixed_cell, lifted_cell, Changed}
 use Rattle.interpolation.specs.Stepped.{led, key_of, Valued, Chosen, Applied, curves_of, lead_of, Bounded, Stepped}
 use Rattle.interpolation.proofs.Padding.{product_read, product_zero, difference_zero}
 

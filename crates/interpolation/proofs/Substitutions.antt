@@ -8,7 +8,7 @@ use Rattle.algebra.specs.Walk.{moved}
 use Rattle.algebra.specs.CodeRecovery.{table}
 use Rattle.algebra.proofs.Carried.{some}
 use Rattle.algebra.proofs.FirstFound.{read_lt}
-use Rattle.interpolation.specs.Size.{columns, rows}
+use Rattle.interpolation.specs.Size.{columns}
 use Rattle.interpolation.specs.declared.steps.Region.{Region}
 use Rattle.interpolation.specs.Steps.{cell, wide_at, above_at, lighter, Light, mixed_at, raised_at, RowsSet, translated, Translated, Moved}
 use Rattle.interpolation.proofs.Codes.{read_zero, mixed_read, mixed_zero, mixed_none}

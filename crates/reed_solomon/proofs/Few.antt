@@ -1,15 +1,15 @@
 -- At most fifteen messages are listed in reach.
-use Rattle.std.proofs.Common.{◌≡◌, ℕ, zero, suc, ◌+◌, ◌-◌, ◌*◌, ◌<◌, ◌≤◌, Bool, true, false, cond, ◌&&◌, ◌||◌, eqb, ltb, leb, List, [], ◌∷◌, length, is_some, Some, None, Ok, Err, filter, Option, Result, sym, refl, ap, ◌∙◌, subst, ⊎_elim, suc-mul, arith}
+use Rattle.std.proofs.Common.{◌≡◌, ℕ, zero, suc, ◌-◌, ◌*◌, ◌<◌, ◌≤◌, Bool, true, false, cond, ◌&&◌, eqb, ltb, leb, List, [], ◌∷◌, length, is_some, Some, None, Ok, Err, filter, Option, sym, refl, ap, ◌∙◌, subst, suc-mul, arith}
 use Rattle.fault.specs.declared.Fault.{Fault}
 use Rattle.std.proofs.lemmas.List.{length-map}
-use Rattle.std.proofs.lemmas.Bool.{and_parts, and_left, and_right, or_from, eqb-true, ltb-true, leb-true, le-ltb, cases_Bool, true≢false}
+use Rattle.std.proofs.lemmas.Bool.{and_parts, and_right, or_from, eqb-true, ltb-true, leb-true, le-ltb, true≢false}
 use Rattle.algebra.specs.Field.{Meaning as Field, Laws}
 use Rattle.algebra.specs.Lists.{Each, Distinct}
 use Rattle.algebra.specs.Interpolation.{monomials}
 use Rattle.algebra.specs.CodeRecovery.{Coded, score}
 use Rattle.algebra.proofs.CodeRecovery.{code_list_bound}
 use Rattle.sheet.specs.Letters.{Sheet, weight}
-use Rattle.counting.specs.Counting.{limits, conditions, suits, smallest, by_counting, in_reach}
+use Rattle.counting.specs.Counting.{limits, conditions, suits, by_counting, in_reach}
 use Rattle.counting.proofs.First.{smallest_passes}
 use Rattle.code.specs.Messages.{every, is_row, messages}
 use Rattle.code.specs.Meaning.{within, beyond, is_sheet, below, listing}
@@ -18,7 +18,7 @@ use Rattle.code.specs.Rising.{less, rising}
 use Rattle.code.proofs.Alone.{row_length, row_every}
 use Rattle.code.proofs.Rows.{listing_rows}
 use Rattle.code.proofs.Once.{listing_rises}
-use Rattle.reed_solomon.specs.ReedSolomon.{word_at, rs_at, rs_meaning, Shape, Bounds, Points}
+use Rattle.reed_solomon.specs.ReedSolomon.{rs_at, rs_meaning, Shape, Bounds, Points}
 use Rattle.reed_solomon.specs.Gathered.{pairs_of, points_of, letters_of}
 use Rattle.reed_solomon.specs.Few.{FewListed, Few}
 use Rattle.reed_solomon.specs.Distance.{every_each, spanned}

@@ -1,5 +1,5 @@
 -- The pairs of a sheet: how many they are, that no two are equal, and how a polynomial scores on them.
-use Rattle.std.proofs.Common.{◌≡◌, ℕ, zero, suc, ◌+◌, ◌<◌, ◌≤◌, Bool, true, false, cond, ◌&&◌, eqb, List, [], ◌∷◌, ◌++◌, map, length, get_or, sym, refl, ap, ◌∙◌, subst, ap₂, ⊎_elim, arith}
+use Rattle.std.proofs.Common.{◌≡◌, ℕ, zero, suc, ◌+◌, ◌<◌, ◌≤◌, Bool, true, false, cond, eqb, List, [], ◌∷◌, ◌++◌, length, get_or, sym, refl, ap, ◌∙◌, subst, ap₂, ⊎_elim, arith}
 use Rattle.std.proofs.lemmas.List.{length-append, length-map, get_or-map}
 use Rattle.std.proofs.lemmas.List.Sums.{sum_by-cons}
 use Rattle.std.proofs.lemmas.Bool.{and_parts, eq-eqb, ne_eqb, cases_eq}
@@ -8,7 +8,7 @@ use Rattle.algebra.specs.Lists.{Each, Distinct}
 use Rattle.algebra.specs.Polynomial.{value, value_from, power}
 use Rattle.algebra.specs.CodeRecovery.{Pairs, passed, score}
 use Rattle.algebra.proofs.Lists.{each_map, each_over, distinct_map}
-use Rattle.sheet.specs.Letters.{Letters, Sheet, tally, size, weight}
+use Rattle.sheet.specs.Letters.{Letters, Sheet, size, weight}
 use Rattle.code.specs.Messages.{every}
 use Rattle.code.specs.Meaning.{below}
 use Rattle.code.specs.Score.{hits}

@@ -1,21 +1,18 @@
 -- What a fitting recovers from the pairs of a sheet is the list of the code.
-use Rattle.std.proofs.Common.{◌≡◌, ℕ, ◌+◌, ◌-◌, ◌*◌, ◌^◌, ◌<◌, ◌≤◌, min, Bool, true, false, cond, ◌&&◌, leb, List, [], ◌∷◌, ◌++◌, length, is_some, Some, None, Ok, Err, filter, Option, Result, sym, refl, ap, ◌∙◌, subst, ap₂, arith}
+use Rattle.std.proofs.Common.{◌≡◌, ℕ, ◌-◌, ◌^◌, ◌<◌, ◌≤◌, min, true, cond, leb, List, [], length, is_some, Some, None, Ok, Err, filter, Option, sym, refl, ap, ◌∙◌, ap₂, arith}
 use mathlib.Core.Path.{fun_ext}
-use Rattle.std.proofs.lemmas.List.{length-map}
-use Rattle.std.proofs.lemmas.Bool.{cond-true, cond-false, and_from, le-leb}
+use Rattle.std.proofs.lemmas.Bool.{cond-true, and_from, le-leb}
 use Rattle.fault.specs.declared.Fault.{Fault}
-use Rattle.fault.specs.declared.Fault.TheVariants.{Shape as OutOfLimits, Reach as OutOfReach}
 use Rattle.algebra.specs.Field.{Meaning as Field, Laws}
-use Rattle.algebra.specs.CodeRecovery.{score}
 use Rattle.sheet.specs.Letters.{Sheet, weight}
 use Rattle.sheet.proofs.Tally.{weight_le}
-use Rattle.counting.specs.Counting.{limits, by_counting, in_reach}
+use Rattle.counting.specs.Counting.{limits, by_counting}
 use Rattle.code.specs.Messages.{span, messages, every}
 use Rattle.code.specs.Meaning.{is_sheet, below, listing, within, beyond}
 use Rattle.code.specs.Answers.{reached}
 use Rattle.interpolation.specs.Recovered.{recovered}
 use Rattle.interpolation.specs.Fitting.{shaped, opened, reached_by}
-use Rattle.reed_solomon.specs.ReedSolomon.{rs_meaning, word_at, Shape, Bounds, Points}
+use Rattle.reed_solomon.specs.ReedSolomon.{rs_meaning, Shape}
 use Rattle.reed_solomon.specs.Gathered.{pairs_of, points_of, letters_of, fed}
 use Rattle.reed_solomon.specs.Distance.{spanned, span_below}
 use Rattle.reed_solomon.proofs.Pairing.{pairs_count, of_points, sheet_pairs, score_is}

@@ -1,12 +1,11 @@
 -- A Reed-Solomon code is lawful.
-use Rattle.std.specs.Prelude.{◌≡◌, ℕ, suc, ◌-◌, ◌<◌, ◌≤◌, Bool, true, false, cond, List, [], ◌∷◌, length, nat_le, refl}
-use Rattle.std.proofs.Common.{sym, ap, ap₂, ◌∙◌, subst, arith}
+use Rattle.std.specs.Prelude.{◌≡◌, ℕ, suc, ◌-◌, ◌≤◌, Bool, true, false, cond, List, [], ◌∷◌, nat_le, refl}
+use Rattle.std.proofs.Common.{ap, ◌∙◌, arith}
 use Rattle.std.proofs.lemmas.Bool.{cond-true, le-leb, leb-true}
 use Rattle.algebra.specs.Field.{Meaning as Field, Laws}
-use Rattle.code.specs.Meaning.{Meaning, Verdict, within, beyond, listing, clean}
-use Rattle.sheet.specs.Letters.{Sheet}
+use Rattle.code.specs.Meaning.{within, beyond, listing, clean}
 use Rattle.code.specs.Messages.{is_row}
-use Rattle.code.specs.Rule.{ListingRule, Sizes, Inside}
+use Rattle.code.specs.Rule.{ListingRule, Inside}
 use Rattle.code.specs.Score.{hits}
 use Rattle.sheet.specs.Letters.{weight}
 use Rattle.code.proofs.Alone.{kept_one, row_length, row_every}

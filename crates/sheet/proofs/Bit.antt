@@ -1,13 +1,12 @@
 -- Single bits of a word.
-use Rattle.std.proofs.Common.{◌≡◌, ℕ, zero, suc, ◌+◌, ◌-◌, ◌*◌, ◌/◌, ◌%◌, ◌^◌, ◌<◌, ◌≤◌, Bool, true, false, ◌||◌, eqb, ◌⊎◌, List, [], ◌∷◌, length, get_or, set, sym, refl, ap, ◌∙◌, subst, inl, inr, ⊎_elim, mod-lt, mod-eq_of_lt, pow-suc, mul-one, arith, lit<, pow-add}
+use Rattle.std.proofs.Common.{◌≡◌, ℕ, zero, suc, ◌+◌, ◌-◌, ◌*◌, ◌/◌, ◌%◌, ◌^◌, ◌<◌, Bool, true, false, ◌||◌, eqb, List, [], ◌∷◌, length, get_or, set, sym, refl, ap, ◌∙◌, ⊎_elim, mod-lt, pow-suc, arith, lit<, pow-add}
 use mathlib.Core.Path.{fun_ext}
 use native.Mathlib.Nat.{zero-div, div-add-mod, div-eq_of_lt, mul-mod_left}
 use lib.Bits.{bit_or, or_shr, or_mod, or_zero_l}
 use lib.Pow.{pow-lt, shl-shr}
 use Rattle.std.proofs.lemmas.Bool.{eq-eqb, ne_eqb, cases_order, cases_eq}
 use Rattle.std.proofs.lemmas.List.{get_or-set_same, get_or-set_other, get_or_past}
-use Rattle.std.proofs.lemmas.Nat.{pow_pos}
-use Rattle.sheet.specs.Letters.{Letters, none, join, union}
+use Rattle.sheet.specs.Letters.{none, join, union}
 use Rattle.sheet.specs.Standing.{marked}
 
 abbrev pub bit : ℕ → ℕ → ℕ

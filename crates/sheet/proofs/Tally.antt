@@ -1,12 +1,10 @@
 -- The number of letters, by the ones of the words.
-use Rattle.std.proofs.Common.{◌≡◌, ℕ, zero, suc, ◌+◌, ◌-◌, ◌*◌, ◌/◌, ◌%◌, ◌^◌, ◌<◌, ◌≤◌, Bool, true, false, cond, eqb, List, [], ◌∷◌, map, length, get_or, take, sum_by, sym, refl, ap, ◌∙◌, subst, ⊎_elim, add-zero, add_assoc, add-suc, mod-lt, mod-eq_of_lt, one-add, arith, lit<}
-use native.Mathlib.Nat.{mod-one, div-add-mod}
-use lib.Count.{ones, ones_step, ones_cat}
-use lib.Bits.{bit_or, bit_and, or_add_and, and_le_l, and_le_r}
-use Rattle.std.proofs.lemmas.Bool.{eq-eqb, ne_eqb, cases_eq}
-use lib.Arith.{digits_div, digits_mod, lt-one}
+use Rattle.std.proofs.Common.{◌≡◌, ℕ, zero, suc, ◌+◌, ◌*◌, ◌/◌, ◌%◌, ◌^◌, ◌<◌, ◌≤◌, Bool, true, false, cond, eqb, List, [], ◌∷◌, map, length, get_or, take, sum_by, sym, refl, ap, ◌∙◌, add-zero, add_assoc, add-suc, mod-lt, mod-eq_of_lt, one-add, arith, lit<}
+use native.Mathlib.Nat.{mod-one}
+use lib.Count.{ones, ones_cat}
+use lib.Arith.{digits_div, digits_mod}
 use lib.Pow.{mod-pow-add}
-use Rattle.std.proofs.lemmas.Nat.{pow_pos, mod_below, shr_below}
+use Rattle.std.proofs.lemmas.Nat.{pow_pos}
 use Rattle.sheet.specs.Letters.{Letters, Sheet, tally, size, weight}
 use Rattle.std.proofs.lemmas.List.{take_more, map-append}
 use Rattle.std.proofs.lemmas.List.Sums.{sum_by_push, sum_by-cons}

@@ -1,5 +1,5 @@
 -- Sets of letters, as tests on a letter, and sheets.
-use Rattle.std.specs.Prelude.{ℕ, zero, suc, ◌+◌, Bool, true, false, cond, ◌||◌, List, sum_by, ◌==◌}
+use Rattle.std.specs.Prelude.{ℕ, zero, suc, ◌+◌, Bool, false, cond, ◌||◌, List, sum_by, ◌==◌}
 
 abbrev pub Letters : Type 0
 Letters = ℕ → Bool

@@ -1,5 +1,5 @@
 -- The set of letters that a value of `Marks` holds.
-use Rattle.std.specs.Prelude.{ℕ, ◌+◌, ◌/◌, ◌%◌, ◌^◌, List, map, ◌==◌, slice_index}
+use Rattle.std.specs.Prelude.{ℕ, ◌/◌, ◌%◌, ◌^◌, List, map, ◌==◌, slice_index}
 use Rattle.sheet.specs.Letters.{Letters, Sheet, weight}
 use Rattle.sheet.specs.declared.marks.Marks.{Marks}
 

@@ -1,5 +1,5 @@
-use Rattle.std.proofs.Common.{◌≡◌, ℕ, suc, ◌+◌, ◌-◌, ◌*◌, ◌^◌, ◌≤◌, min, sym, refl, ap, ◌∙◌, subst, ap₂, arith}
-use Rattle.algebra.specs.Interpolation.{total, monomials}
+use Rattle.std.proofs.Common.{◌≡◌, ℕ, suc, ◌+◌, ◌-◌, ◌*◌, ◌^◌, ◌≤◌, min, sym, ap, ◌∙◌, ap₂, arith}
+use Rattle.algebra.specs.Interpolation.{total}
 use Rattle.algebra.proofs.Totals.{monomials_is}
 use Rattle.counting.proofs.Monomials.{monomials_more, monomials_none}
 use Rattle.counting.proofs.Steps.{capped}

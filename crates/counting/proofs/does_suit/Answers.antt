@@ -1,4 +1,4 @@
-use Rattle.std.proofs.Common.{◌≡◌, ℕ, suc, ◌+◌, ◌-◌, ◌*◌, ◌/◌, ◌<◌, ◌≤◌, ltb, sym, refl, ap, ◌∙◌, subst, ap₂, ⊎_elim, mul-le-mul_right, arith}
+use Rattle.std.proofs.Common.{ℕ, ◌-◌, ◌*◌, ◌<◌, ◌≤◌, ltb, ap, ◌∙◌, subst, ⊎_elim, mul-le-mul_right, arith}
 use Rattle.algebra.specs.Interpolation.{monomials}
 use Rattle.counting.specs.Counting.{conditions}
 use Rattle.counting.proofs.Steps.{suits_false_degree, suits_false_load, suits_test}

@@ -1,7 +1,7 @@
-use Rattle.std.proofs.Common.{◌≡◌, ℕ, ◌+◌, ◌-◌, ◌<◌, ◌≤◌, false, sym, refl, ap, ◌∙◌, subst, ap₂, ⊎_elim, arith}
+use Rattle.std.proofs.Common.{◌-◌, sym, ap, ◌∙◌, ⊎_elim, arith}
 use Rattle.std.proofs.lemmas.Bool.{cases_eq}
 use Rattle.counting.specs.Counting.{limits, suits}
-use Rattle.counting.proofs.First.{First, first_is, smallest_none}
+use Rattle.counting.proofs.First.{first_is, smallest_none}
 use Rattle.counting.proofs.smallest_from.Goals as goal
 
 pub loop-r-init : goal.loop-r-init

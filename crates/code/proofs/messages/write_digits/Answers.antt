@@ -1,4 +1,4 @@
-use Rattle.std.proofs.Common.{◌+◌, ◌-◌, ◌≤◌, length, drop, set, sym, ap, ◌∙◌, arith, rules}
+use Rattle.std.proofs.Common.{arith}
 use Rattle.code.proofs.Spelt.{spell_none, spell_more, spell_all}
 use Rattle.code.proofs.messages.write_digits.Goals as goal
 

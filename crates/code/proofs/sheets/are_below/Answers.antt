@@ -1,4 +1,4 @@
-use Rattle.std.proofs.Common.{◌≡◌, map, take, sym, refl, ap, ◌∙◌, arith, rules}
+use Rattle.std.proofs.Common.{map, sym, ap, ◌∙◌}
 use Rattle.std.proofs.lemmas.List.{take_all}
 use Rattle.sheet.specs.Standing.{stands}
 use Rattle.code.specs.Meaning.{below}

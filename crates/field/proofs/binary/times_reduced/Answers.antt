@@ -1,6 +1,5 @@
-use Rattle.std.proofs.Common.{◌≡◌, ℕ, suc, ◌+◌, ◌-◌, ◌*◌, ◌/◌, ◌%◌, ◌^◌, ◌<◌, ◌≤◌, T, sym, ap, ◌∙◌, subst, div-one, arith}
+use Rattle.std.proofs.Common.{◌≡◌, ℕ, suc, ◌+◌, ◌-◌, ◌*◌, ◌/◌, ◌%◌, ◌^◌, ◌<◌, ◌≤◌, sym, ap, ◌∙◌, subst, div-one, arith}
 use lib.Bits.{bit_xor}
-use Rattle.algebra.specs.Listed.{is_exponent}
 use Rattle.algebra.specs.Binary.{times, times_x, modulus}
 use Rattle.algebra.proofs.Xor.{bit_le}
 use Rattle.algebra.proofs.BinaryLaws.{step_below, byte_size}

@@ -1,4 +1,4 @@
-use Rattle.std.proofs.Common.{◌≡◌, true, Ok, refl}
+use Rattle.std.proofs.Common.{◌≡◌, true, refl}
 use Rattle.concatenated.specs.Concatenation.{joins}
 use Rattle.algebra.specs.Interpolation.{total, monomials}
 use Rattle.counting.specs.Counting.{suits}

@@ -1,4 +1,4 @@
-use Rattle.std.proofs.Common.{◌≡◌, true, Ok, refl}
+use Rattle.std.proofs.Common.{◌≡◌, true, refl}
 use Rattle.concatenated.specs.Concatenation.{joins}
 use Rattle.code.specs.Messages.{messages, span}
 use Rattle.generator.specs.Generator.{gen_word, gen_distance}

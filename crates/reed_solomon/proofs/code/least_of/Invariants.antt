@@ -1,4 +1,4 @@
-use Rattle.std.proofs.Common.{◌≡◌, ℕ, ◌-◌, ◌<◌, ◌≤◌, true}
+use Rattle.std.proofs.Common.{◌≡◌, ℕ, ◌-◌, ◌≤◌, true}
 use Rattle.counting.specs.Counting.{limits, in_reach}
 use Rattle.reed_solomon.proofs.code.least_of.Given as goal
 

@@ -1,4 +1,4 @@
-use Rattle.std.proofs.Common.{◌≡◌, ℕ, ◌<◌, ◌≤◌, length, sym, refl, ap, ◌∙◌, subst, ap₂, arith}
+use Rattle.std.proofs.Common.{length, arith}
 use Rattle.algebra.specs.Polynomial.{value}
 use Rattle.code.proofs.Spans.{all_values}
 use Rattle.reed_solomon.specs.ReedSolomon.{word_at}

@@ -1,7 +1,6 @@
-use Rattle.std.proofs.Common.{◌≡◌, cond, [], ◌∷◌, sym, refl, ap, ◌∙◌, ap₂}
+use Rattle.std.proofs.Common.{cond, [], ◌∷◌, sym, refl, ap, ◌∙◌, ap₂}
 use Rattle.sheet.specs.Standing.{stands}
 use Rattle.interpolation.specs.Fitting.{points_of, values_of}
-use Rattle.interpolation.specs.declared.plan.Plan.{Plan}
 use Rattle.reed_solomon.specs.Gathered.{at_point, fed}
 use Rattle.reed_solomon.proofs.Feeding.{fed_letter, no_letters}
 use Rattle.reed_solomon.proofs.gathering.offer_place.Goals as goal

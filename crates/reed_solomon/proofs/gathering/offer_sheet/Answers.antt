@@ -1,9 +1,8 @@
-use Rattle.std.proofs.Common.{◌≡◌, [], map, length, get_or, take, sym, refl, ap, ◌∙◌, ap₂, arith}
+use Rattle.std.proofs.Common.{◌≡◌, [], map, length, get_or, sym, refl, ap, ◌∙◌, ap₂, arith}
 use Rattle.std.proofs.lemmas.List.{take_all}
 use Rattle.sheet.specs.Standing.{stands}
 use Rattle.code.specs.Messages.{span}
 use Rattle.interpolation.specs.Fitting.{points_of, values_of}
-use Rattle.interpolation.specs.declared.plan.Plan.{Plan}
 use Rattle.reed_solomon.specs.Gathered.{letters, at_point, pairs_of, fed}
 use Rattle.reed_solomon.proofs.Feeding.{fed_place, no_places}
 use Rattle.reed_solomon.proofs.gathering.offer_sheet.Goals as goal

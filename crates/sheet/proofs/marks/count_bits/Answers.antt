@@ -1,5 +1,5 @@
-use Rattle.std.proofs.Common.{ℕ, ◌^◌, ◌<◌, ◌≤◌, get_or, arith, rules}
-use lib.Count.{ones, ones-le}
+use Rattle.std.proofs.Common.{get_or, arith, rules}
+use lib.Count.{ones-le}
 use Rattle.sheet.proofs.Tally.{size_ones}
 use Rattle.sheet.proofs.marks.count_bits.Goals as goal
 

@@ -1,4 +1,4 @@
-use Rattle.std.proofs.Common.{◌≡◌, sym, ◌∙◌, arith}
+use Rattle.std.proofs.Common.{sym, ◌∙◌, arith}
 use Rattle.algebra.proofs.Inverses.{inverse_found, inverse_none}
 use Rattle.field.proofs.traits.Field.inv.Goals as goal
 

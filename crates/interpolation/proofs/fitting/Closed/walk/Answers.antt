@@ -1,4 +1,4 @@
-use Rattle.std.proofs.Common.{◌≡◌, ℕ, ◌+◌, ◌-◌, ◌*◌, ◌<◌, ◌≤◌, true, List, length, sym, ap, subst, subst₂, arith}
+use Rattle.std.proofs.Common.{◌≡◌, ℕ, ◌+◌, ◌-◌, ◌≤◌, true, List, length, sym, ap, subst, subst₂, arith}
 use Rattle.algebra.specs.Field.{codes}
 use Rattle.algebra.specs.Curve.{DegreeBelow, Lies}
 use Rattle.algebra.specs.CodeRecovery.{table, score}

@@ -1,6 +1,6 @@
-use Rattle.std.proofs.Common.{◌≡◌, ℕ, ◌+◌, ◌-◌, ◌*◌, ◌/◌, ◌<◌, ◌≤◌, length, sym, refl, ap, subst₂, arith}
+use Rattle.std.proofs.Common.{◌+◌, ◌-◌, ◌*◌, ◌/◌, ◌<◌, length, sym, refl, ap, subst₂, arith}
 use Rattle.algebra.specs.Interpolation.{monomials}
-use Rattle.interpolation.specs.Fitting.{points_of, values_of}
+use Rattle.interpolation.specs.Fitting.{points_of}
 use Rattle.interpolation.proofs.Opening.{admitted, more_monomials}
 use Rattle.interpolation.proofs.Recovering.{conditions_le, fitted_same}
 use Rattle.interpolation.proofs.fitting.Gathering.close.Goals as goal

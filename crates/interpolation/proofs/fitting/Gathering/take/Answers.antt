@@ -1,4 +1,4 @@
-use Rattle.std.proofs.Common.{◌≡◌, sym, arith, rules}
+use Rattle.std.proofs.Common.{sym, arith, rules}
 use Rattle.interpolation.specs.Fitting.{points_of, values_of}
 use Rattle.interpolation.proofs.Recovering.{more_gathered}
 use Rattle.interpolation.proofs.fitting.Gathering.take.Goals as goal

@@ -1,4 +1,4 @@
-use Rattle.std.proofs.Common.{◌≤◌, sym, refl, rules}
+use Rattle.std.proofs.Common.{sym, refl, rules}
 use Rattle.std.proofs.lemmas.List.{length-take-le}
 use Rattle.interpolation.proofs.pairs.Pairs.len.Goals as goal
 

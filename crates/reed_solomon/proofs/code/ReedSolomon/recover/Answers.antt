@@ -1,4 +1,4 @@
-use Rattle.std.proofs.Common.{◌≡◌, ℕ, List, [], length, Result, sym, refl, ap, ◌∙◌, ap₂, rules}
+use Rattle.std.proofs.Common.{◌≡◌, ℕ, List, length, sym, ap, ◌∙◌, ap₂, rules}
 use Rattle.std.proofs.lemmas.List.{length-map}
 use Rattle.sheet.specs.Standing.{stands, sheet_of}
 use Rattle.code.specs.Messages.{span}
