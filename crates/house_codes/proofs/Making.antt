@@ -12,7 +12,7 @@ use Rattle.generator.specs.Values as gen
 use Rattle.generator.specs.declared.table.Generator.{Generator}
 use Rattle.reed_solomon.specs.ReedSolomon.{rs_meaning, shaped}
 use Rattle.reed_solomon.specs.Values as rs
-use Rattle.reed_solomon.specs.declared.code.ReedSolomon.{ReedSolomon}
+use Rattle.reed_solomon.specs.declared.evaluation.ReedSolomon.{ReedSolomon}
 use Rattle.concatenated.specs.Concatenation.{concatenated, joins}
 use Rattle.concatenated.specs.declared.joining.Concatenated.{Concatenated}
 use Rattle.house_codes.proofs.Padding.{padding}

@@ -7,7 +7,7 @@ use Rattle.field.specs.declared.binary.BinaryField.{BinaryField}
 use Rattle.code.specs.Meaning.{Meaning}
 use Rattle.generator.specs.declared.table.Generator.{Generator}
 use Rattle.generator.specs.Values as gen
-use Rattle.reed_solomon.specs.declared.code.ReedSolomon.{ReedSolomon}
+use Rattle.reed_solomon.specs.declared.evaluation.ReedSolomon.{ReedSolomon}
 use Rattle.reed_solomon.specs.Values as rs
 use Rattle.concatenated.specs.declared.joining.Concatenated.{Concatenated}
 use Rattle.concatenated.specs.Concatenation.{concatenated, Joined}

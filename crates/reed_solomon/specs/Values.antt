@@ -6,7 +6,7 @@ use Rattle.algebra.specs.Field.{Meaning as Field}
 use Rattle.counting.specs.Counting.{limits}
 use Rattle.code.specs.Meaning.{Meaning}
 use Rattle.reed_solomon.specs.ReedSolomon.{rs_meaning, Shape, shaped}
-use Rattle.reed_solomon.specs.declared.code.ReedSolomon.{ReedSolomon}
+use Rattle.reed_solomon.specs.declared.evaluation.ReedSolomon.{ReedSolomon}
 
 module _ {X : Type 0} (means : X → Field) where
   -- the code that a value is

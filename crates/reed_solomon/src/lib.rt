@@ -2,10 +2,10 @@
 
 #![tactic(auto)]
 
-mod code;
+mod evaluation;
 mod gathering;
 mod laws;
 mod listing;
 
-pub use code::ReedSolomon;
+pub use evaluation::ReedSolomon;
 pub use laws::{lists_are_few, reed_solomon_stands};

@@ -8,7 +8,7 @@ ghost use Rattle.std.proofs.Common.{arith};
 ghost use Rattle.counting.specs.Counting.{limits};
 ghost use Rattle.reed_solomon.specs.Law.{shape_lawful};
 
-use crate::code::{ReedSolomon, least_of, write_values};
+use crate::evaluation::{ReedSolomon, least_of, write_values};
 use code::{Code, is_row};
 use fault::Fault;
 use field::Field;

@@ -2,7 +2,7 @@ use Rattle.std.proofs.Common.{length, arith}
 use Rattle.algebra.specs.Polynomial.{value}
 use Rattle.code.proofs.Spans.{all_values}
 use Rattle.reed_solomon.specs.ReedSolomon.{word_at}
-use Rattle.reed_solomon.proofs.code.write_values.Goals as goal
+use Rattle.reed_solomon.proofs.evaluation.write_values.Goals as goal
 
 pub returns : goal.returns
 unfolding word_at

@@ -3,7 +3,7 @@ use Rattle.std.proofs.lemmas.Bool.{cases_eq}
 use Rattle.counting.specs.Counting.{limits, in_reach}
 use Rattle.reed_solomon.specs.LeastLemmas as least
 use Rattle.reed_solomon.specs.LeastLemmas.{least_here}
-use Rattle.reed_solomon.proofs.code.least_of.Goals as goal
+use Rattle.reed_solomon.proofs.evaluation.least_of.Goals as goal
 
 pub loop-t-init : goal.loop-t-init
 loop-t-init c = λ u lo hi.

@@ -10,7 +10,7 @@ use Rattle.interpolation.specs.declared.pairs.Pairs.{Pairs}
 use Rattle.reed_solomon.specs.Values.{meaning_of}
 use Rattle.reed_solomon.specs.Gathered.{pairs_of, fed}
 use Rattle.reed_solomon.proofs.Recovering.{short, places, load_is, held_all, list_same, opens_in_reach, refused_out_of_reach}
-use Rattle.reed_solomon.proofs.code.ReedSolomon.recover.Goals as goal
+use Rattle.reed_solomon.proofs.evaluation.ReedSolomon.recover.Goals as goal
 
 pub offer_sheet-requires : goal.offer_sheet-requires
 offer_sheet-requires g c = record {

@@ -3,7 +3,7 @@ use Rattle.std.proofs.lemmas.List.{length-map}
 use Rattle.sheet.specs.Standing.{sheet_of}
 use Rattle.code.specs.Meaning.{is_sheet, below}
 use Rattle.code.specs.Messages.{every}
-use Rattle.reed_solomon.proofs.code.ReedSolomon.has_sheet.Goals as goal
+use Rattle.reed_solomon.proofs.evaluation.ReedSolomon.has_sheet.Goals as goal
 
 pub returns : goal.returns
 unfolding is_sheet
