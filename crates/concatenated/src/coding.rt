@@ -66,11 +66,11 @@ fn list_in_range<O: Code, I: Code>(
 impl<O: Code, I: Code> Code for Concatenated<O, I> {
     const FAMILY: u8 = I::FAMILY;
 
-    ghost means = { λ c. concatenated (O.Code.means c.outer) (I.Code.means c.inner) c.agreement };
+    ghost means = { λ c. concatenated (O.means c.outer) (I.means c.inner) c.agreement };
 
-    ghost made = { λ c. Joined (O.Code.means c.outer) (I.Code.means c.inner) c.agreement × O.Code.made c.outer × I.Code.made c.inner };
+    ghost made = { λ c. Joined (O.means c.outer) (I.means c.inner) c.agreement × O.made c.outer × I.made c.inner };
 
-    ghost lawful = { λ c made. concatenated_lawful _ _ c.agreement (O.Code.lawful c.outer made.1) (I.Code.lawful c.inner made.2) made.0 };
+    ghost lawful = { λ c made. concatenated_lawful _ _ c.agreement (O.lawful c.outer made.1) (I.lawful c.inner made.2) made.0 };
 
     fn family_number(&self) -> u8 {
         self.inner.family_number()

@@ -13,11 +13,11 @@ use sheet::Marks;
 impl<F: Field> Code for Generator<F> {
     const FAMILY: u8 = F::FAMILY;
 
-    ghost means = { meaning_of F.Field.means };
+    ghost means = { meaning_of F.means };
 
-    ghost made = { Made F.Field.means };
+    ghost made = { Made F.means };
 
-    ghost lawful = { λ c made. generator_lawful _ (ring_of _ (F.Field.lawful c.field)) c.table c.n c.k made };
+    ghost lawful = { λ c made. generator_lawful _ (ring_of _ (F.lawful c.field)) c.table c.n c.k made };
 
     fn family_number(&self) -> u8 {
         self.field.family_number()

@@ -10,7 +10,7 @@ use Rattle.code.specs.Score.{hits}
 use Rattle.sheet.specs.Letters.{weight}
 use Rattle.code.proofs.Alone.{kept_one, row_length, row_every}
 use Rattle.code.proofs.Scores.{weight_clean, hits_self}
-use Rattle.counting.specs.Counting.{Limits, in_reach}
+use Rattle.counting.specs.Counting.{Limits, limits, in_reach}
 use Rattle.reed_solomon.specs.Least.{least_reach}
 use Rattle.reed_solomon.specs.ReedSolomon.{rs_at, word_at, rs_meaning, Shape, Points, Bounds, most_places}
 use Rattle.reed_solomon.specs.LeastLemmas as least
@@ -74,3 +74,7 @@ module _ (L : Limits) (lr : 1 ≤ L.multiplicity) (ly : 1 ≤ L.power) (ld : mos
 
 pub shape_lawful : (L : Limits) → 1 ≤ L.multiplicity → 1 ≤ L.power → most_places ≤ suc L.degree → (F : Field) → Laws F → (n k : ℕ) → Shape F n k → ListingRule (rs_meaning L F n k)
 shape_lawful L lr ly ld F laws n k shape = points_lawful L lr ly ld F laws n k shape.bounds _ (distance.spanned F n shape.n_q)
+
+-- the same at the bounds of the program
+pub lawful_at_limits : (F : Field) → Laws F → (n k : ℕ) → Shape F n k → ListingRule (rs_meaning limits F n k)
+lawful_at_limits F laws n k shape = shape_lawful limits (omega arith) (omega arith) (omega arith) F laws n k shape

@@ -4,9 +4,7 @@ ghost use Rattle.sheet.specs.Standing.{sheet_of};
 ghost use Rattle.code.specs.Answers.{listed, shown};
 ghost use Rattle.reed_solomon.specs.Few.{Few};
 ghost use Rattle.reed_solomon.specs.Values.{meaning_of, Made};
-ghost use Rattle.std.proofs.Common.{arith};
-ghost use Rattle.counting.specs.Counting.{limits};
-ghost use Rattle.reed_solomon.specs.Law.{shape_lawful};
+ghost use Rattle.reed_solomon.specs.Law.{lawful_at_limits};
 
 use crate::evaluation::{ReedSolomon, least_of, write_values};
 use code::{Code, is_row};
@@ -17,11 +15,11 @@ use sheet::Marks;
 impl<F: Field> Code for ReedSolomon<F> {
     const FAMILY: u8 = F::FAMILY;
 
-    ghost means = { λ c. meaning_of F.Field.means c };
+    ghost means = { λ c. meaning_of F.means c };
 
-    ghost made = { λ c. Made F.Field.means c };
+    ghost made = { λ c. Made F.means c };
 
-    ghost lawful = { λ c made. shape_lawful limits (omega arith) (omega arith) (omega arith) _ (F.Field.lawful c.field) c.n c.k made };
+    ghost lawful = { λ c made. lawful_at_limits _ (F.lawful c.field) c.n c.k made };
 
     fn family_number(&self) -> u8 {
         self.field.family_number()
