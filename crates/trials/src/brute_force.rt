@@ -43,7 +43,7 @@ fn check_message<C: Code>(
     list: &[u8],
     at: usize,
 ) -> Result<bool, Fail>
-    requires made { made code.now }
+    requires made { C.made code.now }
 {
     let n = code.places();
     let k = code.dimension();
@@ -73,7 +73,7 @@ fn compare<C: Code>(
     sheet: &[Marks],
     t: usize,
 ) -> Result<bool, Fail>
-    requires made { made code.now }
+    requires made { C.made code.now }
 {
     let k = code.dimension();
     let mut buf = [0u8; ROOM];
@@ -97,7 +97,7 @@ fn compare_all<C: Code>(
     total: usize,
     sheet: &[Marks],
 ) -> Result<usize, Fail>
-    requires made { made code.now }
+    requires made { C.made code.now }
 {
     let mut answered = 0usize;
     for t in 1..code.top().min(MOST_PLACES) + 1 {
@@ -115,7 +115,7 @@ fn compare_one<C: Code>(
     total: usize,
     state: &mut u32,
 ) -> Result<usize, Fail>
-    requires made { made code.now }
+    requires made { C.made code.now }
 {
     let n = code.places();
     let k = code.dimension();
@@ -146,7 +146,7 @@ fn compare_some<C: Code>(
     rounds: usize,
     state: &mut u32,
 ) -> Result<usize, Fail>
-    requires made { made code.now }
+    requires made { C.made code.now }
 {
     let mut answered = 0usize;
     for _ in 0..rounds {

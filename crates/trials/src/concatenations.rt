@@ -19,7 +19,7 @@ const ROOM: usize = 1024;
 const SUM_ROWS: [u8; 6] = [1, 0, 1, 0, 1, 1];
 
 fn largest_of<C: Code>(code: &C) -> u8
-    requires made { made code.now }
+    requires made { C.made code.now }
 {
     (code.base().saturating_sub(1) % 256) as u8
 }
@@ -32,7 +32,7 @@ fn does_score<C: Code>(
     sheet: &[Marks],
     t: usize,
 ) -> Result<bool, Fail>
-    requires made { made code.now }
+    requires made { C.made code.now }
 {
     let n = code.places();
     let k = code.dimension();
@@ -54,7 +54,7 @@ fn numbers<C: Code>(
     sheet: &[Marks],
     t: usize,
 ) -> Result<Marks, Fail>
-    requires made { made code.now }
+    requires made { C.made code.now }
 {
     let mut found = Marks::new();
     for v in 0..=total {
@@ -84,7 +84,7 @@ fn lift<I: Code>(
     sheet: &[Marks],
     lifted: &mut [Marks],
 ) -> Result<(), Fail>
-    requires made { made inner.now }
+    requires made { I.made inner.now }
 {
     let n = inner.places();
     for b in 0..lifted.len() {
@@ -118,7 +118,7 @@ fn numbers_of_two<O: Code, I: Code>(
 
 // The message with number v stands at this place of the list.
 fn check_listed<C: Code>(rt: &impl Abort, code: &C, v: usize, list: &[u8], at: usize)
-    requires made { made code.now }
+    requires made { C.made code.now }
 {
     let k = code.dimension();
     assert!(rt; k <= MOST_LETTERS);
@@ -140,7 +140,7 @@ fn compare<C: Code>(
     sheet: &[Marks],
     t: usize,
 ) -> Result<bool, Fail>
-    requires made { made code.now }
+    requires made { C.made code.now }
 {
     let k = code.dimension();
     let mut buf = [0u8; ROOM];
@@ -165,7 +165,7 @@ fn random_sheet<C: Code>(
     state: &mut u32,
     sheet: &mut [Marks],
 ) -> Result<(), Fail>
-    requires made { made code.now }
+    requires made { C.made code.now }
 {
     let n = code.places();
     let k = code.dimension();
