@@ -38,8 +38,7 @@ fn is_power(q: usize, p: usize, k: usize) -> bool
 impl<O: Code + Drop, I: Code + Drop> Concatenated<O, I> {
     // Joins two codes where the outer letters are the numbers of the inner messages, the agreement lies between the inner least and top, and the places are few enough. Refused, it lets both go.
     pub fn new(outer: O, inner: I, agreement: usize) -> Result<Concatenated<O, I>, Fault>
-        requires outer { O.made outer }
-        requires inner { I.made inner }
+        requires made { O.made outer × I.made inner }
         ensures answer { result ≡ (if joins (O.means outer) (I.means inner) agreement then Ok (record { outer = outer; inner = inner; agreement = agreement }) else Err Join) }
         ensures made { elim result [ Ok c ↦ Joined (O.means c.outer) (I.means c.inner) c.agreement × O.made c.outer × I.made c.inner | Err f ↦ Unit {0} ] }
     {

@@ -14,7 +14,10 @@ pub type SlabCode = Concatenated<ReedSolomon<BinaryField>, Generator<PrimeField>
 
 // the inner code's table, row after row
 const ROWS: [u8; 32] = [
-    1, 0, 0, 0, 0, 1, 1, 1, 0, 1, 0, 0, 1, 0, 1, 1, 0, 0, 1, 0, 1, 1, 0, 1, 0, 0, 0, 1, 1, 1, 1, 0,
+    1, 0, 0, 0, 0, 1, 1, 1, //
+    0, 1, 0, 0, 1, 0, 1, 1, //
+    0, 0, 1, 0, 1, 1, 0, 1, //
+    0, 0, 0, 1, 1, 1, 1, 0,
 ];
 
 // n 8, k 4 over the field of 2 elements.
