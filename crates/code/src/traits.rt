@@ -13,7 +13,7 @@ pub trait Code {
 
     ghost means: { Self → Meaning };
 
-    // What a making sees to. A fact over a trait's members cannot stand in a struct's type, so calls ask for it, and makings promise it.
+    // What a making sees to: makings promise it, and calls ask for it.
     ghost made: { Self → Type 0 };
 
     fn family_number(&self) -> u8

@@ -8,7 +8,7 @@ pub trait Field {
 
     ghost means: { Self → Meaning };
 
-    // The family's number. Each `impl` answers its own FAMILY; a clause cannot name that constant through a generic `impl`, so it speaks of this answer.
+    // The family's number. Each `impl` answers its own FAMILY, and clauses speak of this answer.
     fn family_number(&self) -> u8
         ensures { result ≡ (means self.now).family };
 

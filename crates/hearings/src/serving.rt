@@ -48,7 +48,7 @@ impl House {
         }
     }
 
-    // One call of the record, which is handed back. A pattern that lends the record cannot be had: its code holds a field, whose type has an invariant.
+    // One call of the record, which is handed back.
     pub(crate) fn serve(self, call: Call, buffer: &mut [u8]) -> (House, Answer)
         requires { Sound self }
         ensures sound { Sound result.0 }
