@@ -1,6 +1,6 @@
 -- The theorems of list recovery for codes, the numbers below the size of a field that programs hold.
 -- They hold of every field of codes that keeps the laws. The operations on codes take the place of those on elements.
-use Rattle.std.specs.Prelude.{◌≡◌, ℕ, zero, suc, ◌+◌, ◌-◌, ◌*◌, ◌/◌, ◌<◌, ◌≤◌, cond, List, length, ◌==◌, ◌≢◌, slice_index}
+use Rattle.std.specs.Prelude.{◌≡◌, ℕ, zero, suc, ◌+◌, ◌-◌, ◌*◌, ◌/◌, ◌<◌, ◌≤◌, List, length, ◌==◌, ◌≢◌, slice_index, if◌then◌else◌}
 use Rattle.algebra.specs.Lists.{Each, Distinct}
 use Rattle.algebra.specs.Field.{Meaning, Laws, read, codes}
 use Rattle.algebra.specs.Polynomial.{value}
@@ -34,7 +34,7 @@ pub record Pairs (F : Meaning) (xs ys : List ℕ) : Type 0 where
 -- How many of the first n pairs the polynomial f passes through.
 abbrev pub passed : Meaning → (f xs ys : List ℕ) → ℕ → ℕ
 passed F f xs ys zero = 0
-passed F f xs ys (suc n) = passed F f xs ys n + cond (value F f (at xs n) == at ys n) 1 0
+passed F f xs ys (suc n) = passed F f xs ys n + (if value F f (at xs n) == at ys n then 1 else 0)
 
 -- The score of f: how many of the pairs it passes through.
 unfoldable pub score : Meaning → (xs ys f : List ℕ) → ℕ

@@ -1,6 +1,6 @@
 -- Curves: polynomials in x and y, and their multiplicity at a pair (a, b).
 -- A curve is the table c of its coefficients, c i j that of x^i y^j; those with i below X and j below Y count.
-use Rattle.std.specs.Prelude.{◌≡◌, ℕ, zero, suc, ◌+◌, ◌-◌, ◌*◌, ◌<◌, ◌≤◌, cond, List, nat_lt}
+use Rattle.std.specs.Prelude.{◌≡◌, ℕ, zero, suc, ◌+◌, ◌-◌, ◌*◌, ◌<◌, ◌≤◌, List, nat_lt, if◌then◌else◌}
 use Rattle.algebra.specs.Ring.{Ops}
 use Rattle.algebra.specs.Series.{poly, series, coefficients}
 
@@ -61,7 +61,7 @@ module _ {K : Type 0} (O : Ops K) where
 
   -- The coefficient of y^j, a power series in x.
   unfoldable pub row : ℕ → Table K → ℕ → ℕ → K
-  row X c j i = cond (nat_lt i X) (c i j) 𝟘
+  row X c j i = if nat_lt i X then c i j else 𝟘
 
   -- The series y put for y gives zero.
   unfoldable pub ZeroAt : (X Y : ℕ) → Table K → (ℕ → K) → Type 0

@@ -1,5 +1,5 @@
 -- Interpolation by Kötter's method: a table of Y curves, one for each leading power of y, that meets one condition after another.
-use Rattle.std.specs.Prelude.{◌≡◌, ℕ, zero, suc, ◌+◌, ◌-◌, ◌*◌, ◌<◌, ◌≤◌, cond, ◌≢◌, ◌⊎◌, ◌==◌, nat_le}
+use Rattle.std.specs.Prelude.{◌≡◌, ℕ, zero, suc, ◌+◌, ◌-◌, ◌*◌, ◌<◌, ◌≤◌, ◌≢◌, ◌⊎◌, ◌==◌, nat_le, if◌then◌else◌}
 use Rattle.algebra.specs.Ring.{Ops}
 use Rattle.algebra.specs.Curve.{Table, Through, DegreeBelow, Nonzero, discrepancy}
 
@@ -14,7 +14,7 @@ total (suc n) f = total n f + f n
 
 -- How many monomials x^i y^j have j below Y and weighted degree D at most.
 unfoldable pub monomials : (Y v D : ℕ) → ℕ
-monomials Y v D = total Y (λ j. total (suc D) (λ i. cond (nat_le (i + v * j) D) 1 0))
+monomials Y v D = total Y (λ j. total (suc D) (λ i. if nat_le (i + v * j) D then 1 else 0))
 
 -- The sum r + (r - 1) + .. + 1, the number of the conditions of multiplicity r at one pair.
 unfoldable pub triangle : ℕ → ℕ
@@ -61,7 +61,7 @@ module _ {K : Type 0} (O : Ops K) where
 
   -- The power y^j, the curve j of the first table.
   unfoldable pub y_power : ℕ → Table K
-  y_power j zero k = cond (k == j) O.one O.zero
+  y_power j zero k = if k == j then O.one else O.zero
   y_power j (suc i) k = O.zero
 
   -- The product (x - a) c.

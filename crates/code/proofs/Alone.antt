@@ -1,6 +1,7 @@
 -- A filter of the messages that passes one message alone.
 use Rattle.std.proofs.Common.{◌≡◌, ℕ, zero, suc, ◌+◌, ◌<◌, ◌≤◌, Bool, true, false, cond, eqb, ltb, List, [], ◌∷◌, ◌++◌, map, length, filter, refl, ap, ◌∙◌, ap₂, ⊎_elim, arith}
 use Rattle.std.proofs.lemmas.List.{append-nil}
+use Rattle.std.proofs.lemmas.List.Elements.{filter-append}
 use Rattle.std.proofs.lemmas.Bool.{and_parts, and_from, eqb-true, eq-eqb, ltb-true, lt-ltb, cond-true, cond-false, cases_eq, cases_Bool}
 use Rattle.code.specs.Messages.{every, is_row, span, each, messages}
 
@@ -22,15 +23,9 @@ row_head k p a x e = ltb-true a p (and_parts (ltb a p) _ (row_every (suc k) p (a
 pub row_tail : (k p a : ℕ) (x : List ℕ) → is_row (suc k) p (a ∷ x) ≡ true → is_row k p x ≡ true
 row_tail k p a x e = row_from k p x (let h = row_length (suc k) p (a ∷ x) e in omega arith) (and_parts (ltb a p) _ (row_every (suc k) p (a ∷ x) e)).1
 
-kept_append : {X : Type 0} (f : X → Bool) (xs ys : List X) → filter f (xs ++ ys) ≡ filter f xs ++ filter f ys
-kept_append f [] ys = refl
-kept_append f (x ∷ xs) ys =
-    ap (λ z. cond (f x) (x ∷ z) z) (kept_append f xs ys)
-    ∙ (elim (f x) as (λ b. cond b (x ∷ (filter f xs ++ filter f ys)) (filter f xs ++ filter f ys) ≡ cond b (x ∷ filter f xs) (filter f xs) ++ filter f ys) [ true ↦ refl | false ↦ refl ])
-
 kept_each : {X Y : Type 0} (f : Y → Bool) (g : X → List Y) (xs : List X) → filter f (each g xs) ≡ each (λ x. filter f (g x)) xs
 kept_each f g [] = refl
-kept_each f g (x ∷ xs) = kept_append f (g x) (each g xs) ∙ ap (λ z. filter f (g x) ++ z) (kept_each f g xs)
+kept_each f g (x ∷ xs) = filter-append f (g x) (each g xs) ∙ ap (λ z. filter f (g x) ++ z) (kept_each f g xs)
 
 kept_map : {X Y : Type 0} (f : Y → Bool) (g : X → Y) (xs : List X) → filter f (map g xs) ≡ map g (filter (λ x. f (g x)) xs)
 kept_map f g [] = refl

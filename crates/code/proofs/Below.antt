@@ -1,9 +1,11 @@
 -- The test of a sheet, letter by letter and place by place.
-use Rattle.std.proofs.Common.{◌≡◌, ℕ, zero, suc, ◌+◌, ◌<◌, ◌≤◌, Bool, true, false, not, ◌||◌, ltb, List, [], ◌∷◌, ◌++◌, map, length, get_or, take, sym, refl, ap, ◌∙◌, ⊎_elim, arith}
-use Rattle.std.proofs.lemmas.List.{take_more, map-append}
-use Rattle.std.proofs.lemmas.Bool.{and_parts, and_from, and_left, and_right, or_left, or_right, or_from, not_from_true, not_from_false, lt-ltb, le-ltb, cases_lt, cases_eq}
+use Rattle.std.proofs.Common.{◌≡◌, ℕ, zero, suc, ◌<◌, ◌≤◌, Bool, true, false, not, ◌&&◌, ◌||◌, eqb, ltb, List, length, sym, refl, ap, ap₂, ◌∙◌, ⊎_elim, arith}
+use Rattle.std.proofs.lemmas.List.{length-map}
+use Rattle.std.proofs.lemmas.Bool.{and_from, and_left, and_right, or_left, or_right, or_from, not_from_true, not_from_false, lt-ltb, le-ltb, cases_lt, cases_eq}
 use Rattle.sheet.specs.Letters.{Letters}
-use Rattle.code.specs.Meaning.{below}
+use Rattle.sheet.specs.Standing.{stands, sheet_of}
+use Rattle.sheet.specs.declared.marks.Marks.{Marks}
+use Rattle.code.specs.Meaning.{Meaning, below, is_sheet}
 use Rattle.code.specs.Messages.{every}
 
 -- no letter from q on stands below i
@@ -27,14 +29,9 @@ below_broken q s (suc n) l lt le e =
     (λ ne. sym (and_right _ _ (sym (below_broken q s n l (omega arith) le e))))
     (cases_eq l n)
 
-pub every_push : {X : Type 0} (f : X → Bool) (xs : List X) (x : X) → every f xs ≡ true → f x ≡ true → every f (xs ++ x ∷ []) ≡ true
-every_push f [] x e h = and_from (f x) true h refl
-every_push f (y ∷ xs) x e h = let a = and_parts (f y) (every f xs) e in and_from (f y) _ a.0 (every_push f xs x a.1 h)
-
-pub every_more : {X Y : Type 0} (f : Y → Bool) (g : X → Y) (xs : List X) (i : ℕ) (d : X) → i < length xs → every f (map g (take i xs)) ≡ true → f (g (get_or xs i d)) ≡ true → every f (map g (take (i + 1) xs)) ≡ true
-every_more f g xs i d h e k = ap (λ z. every f (map g z)) (take_more xs i d h) ∙ ap (every f) (map-append g (take i xs) (get_or xs i d ∷ [])) ∙ every_push f (map g (take i xs)) (g (get_or xs i d)) e k
-
-pub every_broken : {X Y : Type 0} (f : Y → Bool) (g : X → Y) (xs : List X) (i : ℕ) (d : X) → i < length xs → f (g (get_or xs i d)) ≡ false → false ≡ every f (map g xs)
-every_broken f g [] i d h e = absurd (omega arith)
-every_broken f g (x ∷ xs) zero d h e = sym (and_left _ _ e)
-every_broken f g (x ∷ xs) (suc i) d h e = sym (and_right _ _ (sym (every_broken f g xs i d (omega arith) e)))
+-- the test of a sheet, on the marks themselves
+pub sheet_is : (m : Meaning) (ms : List Marks) (n q : ℕ) (b : Bool) → b ≡ (eqb (length ms) n && every (below q 256) (sheet_of ms)) → n ≡ m.n → q ≡ m.q → b ≡ is_sheet m (sheet_of ms)
+unfolding is_sheet
+sheet_is m ms n q b e en eq =
+    e ∙ ap₂ (λ k p. eqb (length ms) k && every (below p 256) (sheet_of ms)) en eq
+    ∙ ap (λ l. eqb l m.n && every (below m.q 256) (sheet_of ms)) (sym (length-map ms stands))

@@ -8,3 +8,4 @@ pub mod Members
 pub mod Numbering
 pub mod Spelt
 pub mod Scores
+pub mod Laid

@@ -83,16 +83,11 @@ number_grows p a [] h = omega arith
 number_grows p a (x ∷ xs) h = let r = number_grows p (a * p + x) xs h in let m : a * 1 ≤ a * p = mul-le-mul_left a h in omega (arith, mul-one a)
 
 -- a number that fits, and one that does not
-pub some_fits : (v : ℕ) → v < 2 ^ 64 → Some v ≡ if_fits v
+some_fits : (v : ℕ) → v < 2 ^ 64 → Some v ≡ if_fits v
 some_fits v h = sym (cond-true (ltb v (2 ^ 64)) (Some v) None (lt-ltb v (2 ^ 64) h))
 
 pub none_fits : (v : ℕ) → 2 ^ 64 ≤ v → None ≡ if_fits v
 none_fits v h = sym (cond-false (ltb v (2 ^ 64)) (Some v) None (le-ltb v (2 ^ 64) h))
-
-pub fits_some : (v w : ℕ) → Some w ≡ if_fits v → (w ≡ v) × (v < 2 ^ 64)
-fits_some v w e =
-    ⊎_elim (λ h. let s = some_fits v h in (cc, h))
-    (λ h. let n = none_fits v h in let z : ◌≡◌ {A = ℕ} 0 1 = cc in absurd (omega arith)) (cases_lt v (2 ^ 64))
 
 pub fits_none : (v : ℕ) → None ≡ if_fits v → 2 ^ 64 ≤ v
 fits_none v e = ⊎_elim (λ h. let s = some_fits v h in let z : ◌≡◌ {A = ℕ} 0 1 = cc in absurd (omega arith)) (λ h. h) (cases_lt v (2 ^ 64))

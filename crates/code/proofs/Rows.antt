@@ -1,6 +1,7 @@
 -- Rows of letters, and how long a list is.
 use Rattle.std.proofs.Common.{◌≡◌, ℕ, zero, suc, ◌+◌, ◌-◌, ◌*◌, ◌≤◌, Bool, true, false, cond, ◌&&◌, eqb, ltb, leb, List, [], ◌∷◌, ◌++◌, map, length, take, drop, Ok, Err, filter, Result, sym, refl, ap, ◌∙◌, subst, ⊎_elim, suc-mul, mul_comm, arith}
 use Rattle.std.proofs.lemmas.List.{length-append, length-replicate}
+use Rattle.std.proofs.lemmas.List.Sums.{length-filter, count_by-le-length}
 use Rattle.std.proofs.lemmas.Bool.{and_parts, and_from, eq-eqb, eqb-true, lt-ltb, leb-true, cases_Bool, cond-false, cond-true}
 use Rattle.fault.specs.declared.Fault.{Fault}
 use Rattle.fault.specs.declared.Fault.TheVariants.{Agreement, Sheet as BadSheet, Short}
@@ -59,13 +60,8 @@ messages_rows p (suc k) =
     (span 0 p) (span_below p 0 p (omega arith))
 
 -- lengths
-cond_length : {X : Type 0} (b : Bool) (x : X) (xs : List X) (n : ℕ) → length xs ≤ n → length (cond b (x ∷ xs) xs) ≤ suc n
-cond_length true x xs n h = omega arith
-cond_length false x xs n h = omega arith
-
 pub kept_length : {X : Type 0} (f : X → Bool) (xs : List X) → length (filter f xs) ≤ length xs
-kept_length f [] = omega arith
-kept_length f (x ∷ xs) = cond_length (f x) x (filter f xs) (length xs) (kept_length f xs)
+kept_length f xs = let e = length-filter f xs in let h = count_by-le-length f xs in omega arith
 
 pub each_rows_length : (k p : ℕ) (L : List (List ℕ)) → every (is_row k p) L ≡ true → length (each (λ x. x) L) ≡ length L * k
 each_rows_length k p [] e = let z : 0 ≡ 0 * k = omega arith in z

@@ -1,9 +1,8 @@
 -- Scores on the sheet of one word.
-use Rattle.std.proofs.Common.{◌≡◌, ℕ, zero, suc, ◌+◌, ◌<◌, ◌≤◌, true, false, cond, eqb, ltb, ◌⊎◌, List, [], ◌∷◌, ◌++◌, map, length, get_or, take, filter, refl, ap, ◌∙◌, ap₂, inl, inr, ⊎_elim, arith}
-use Rattle.std.proofs.lemmas.List.{take_more}
+use Rattle.std.proofs.Common.{◌≡◌, ℕ, zero, suc, ◌+◌, ◌<◌, ◌≤◌, true, false, cond, eqb, ltb, List, [], ◌∷◌, map, length, filter, zip, refl, ap, ◌∙◌, ap₂, ⊎_elim, arith}
 use Rattle.std.proofs.lemmas.List.Sums.{sum_by-cons}
 use Rattle.std.proofs.lemmas.Bool.{and_parts, eq-eqb, ne_eqb, ltb-true, cases_eq}
-use Rattle.sheet.specs.Letters.{Letters, tally, size, weight}
+use Rattle.sheet.specs.Letters.{tally, size, weight}
 use Rattle.sheet.specs.Standing.{stands}
 use Rattle.sheet.specs.declared.marks.Marks.{Marks}
 use Rattle.code.specs.Messages.{every}
@@ -48,29 +47,11 @@ hits_points f g (i ∷ ps) =
     elim (eqb (g i) (f i)) as (λ b. cond b 1 0 + hits (clean (map f ps)) (map g ps) ≡ length (cond b (i ∷ filter (λ i. eqb (g i) (f i)) ps) (filter (λ i. eqb (g i) (f i)) ps)))
     [ true ↦ omega arith | false ↦ omega arith ]
 
-hits_cons : (s : Letters) (l : ℕ) (ss : List Letters) (w : List ℕ) → hits (s ∷ ss) (l ∷ w) ≡ cond (s l) 1 0 + hits ss w
-hits_cons s l ss w = refl
-
--- one place more
-pub hits_more : (ms : List Marks) (w : List ℕ) (i : ℕ) (d : Marks) → i < length ms → i < length w
-    → hits (map stands (take (i + 1) ms)) (take (i + 1) w) ≡ hits (map stands (take i ms)) (take i w) + cond (stands (get_or ms i d) (get_or w i 0)) 1 0
-hits_more ms w i d hm hw =
-    ap₂ hits (ap (map stands) (take_more ms i d hm)) (take_more w i 0 hw) ∙ ends ms w i hm hw
-  where
-    ends : (ms : List Marks) (w : List ℕ) (i : ℕ) → i < length ms → i < length w
-        → hits (map stands (take i ms ++ get_or ms i d ∷ [])) (take i w ++ get_or w i 0 ∷ []) ≡ hits (map stands (take i ms)) (take i w) + cond (stands (get_or ms i d) (get_or w i 0)) 1 0
-    ends [] w i hm hw = absurd (omega arith)
-    ends (m ∷ ms) [] i hm hw = absurd (omega arith)
-    ends (m ∷ ms) (l ∷ w) zero hm hw = (let z : cond (stands m l) 1 0 + 0 ≡ 0 + cond (stands m l) 1 0 = omega arith in z)
-    ends (m ∷ ms) (l ∷ w) (suc i) hm hw = let h = ends ms w i (omega arith) (omega arith) in omega arith
-
--- all the places that both have
-pub hits_all : (ms : List Marks) (w : List ℕ) (i : ℕ) → (length ms ≤ i) ⊎ (length w ≤ i) → hits (map stands (take i ms)) (take i w) ≡ hits (map stands ms) w
-hits_all [] w zero h = refl
-hits_all [] w (suc i) h = refl
-hits_all (m ∷ ms) [] zero h = refl
-hits_all (m ∷ ms) [] (suc i) h = refl
-hits_all (m ∷ ms) (l ∷ w) zero h = absurd (⊎_elim (λ a. omega arith) (λ b. omega arith) h)
-hits_all (m ∷ ms) (l ∷ w) (suc i) h =
-    ap (λ z. cond (stands m l) 1 0 + z)
-    (hits_all ms w i (⊎_elim (λ a. inl (let z : length ms ≤ i = omega arith in z)) (λ b. inr (let z : length w ≤ i = omega arith in z)) h))
+-- the score counts the pairs of a place's letters and the word's letter there, where it stands
+pub hits_are_pairs : (ms : List Marks) (w : List ℕ) → hits (map stands ms) w ≡ length (filter (λ p. stands p.0 p.1) (zip ms w))
+hits_are_pairs [] w = refl
+hits_are_pairs (m ∷ ms) [] = refl
+hits_are_pairs (m ∷ ms) (l ∷ w) =
+    let h = hits_are_pairs ms w in
+    elim (stands m l) as (λ b. cond b 1 0 + hits (map stands ms) w ≡ length (cond b ((m, l) ∷ filter (λ p. stands p.0 p.1) (zip ms w)) (filter (λ p. stands p.0 p.1) (zip ms w))))
+    [ true ↦ omega arith | false ↦ omega arith ]

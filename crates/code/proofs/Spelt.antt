@@ -1,10 +1,7 @@
 -- One turn of `spell`, and of the pile's `encode`.
 use Rattle.std.proofs.Common.{◌≡◌, ℕ, zero, suc, ◌+◌, ◌-◌, ◌/◌, ◌%◌, ◌<◌, ◌≤◌, List, [], ◌∷◌, ◌++◌, length, drop, set, sym, ap, ◌∙◌, arith}
-use Rattle.std.proofs.lemmas.List.{append_assoc, drop-set, append-nil, drop_all}
+use Rattle.std.proofs.lemmas.List.{append_assoc, drop-set}
 use Rattle.code.specs.Messages.{digits}
-
-pub spell_none : (p v : ℕ) (xs : List ℕ) → digits p (length xs) v ++ drop (length xs) xs ≡ digits p (length xs) v
-spell_none p v xs = ap (λ z. digits p (length xs) v ++ z) (drop_all (length xs) xs (omega arith)) ∙ append-nil _
 
 pub spell_more : (p i rest : ℕ) (xs to : List ℕ) → 0 < i → i ≤ length xs → digits p i rest ++ drop i xs ≡ to
     → digits p (i - 1) (rest / p) ++ drop (i - 1) (set xs (i - 1) (rest % p)) ≡ to

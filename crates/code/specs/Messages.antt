@@ -1,14 +1,14 @@
 -- Messages: all lists of k letters below p, in rising order, and their numbers.
-use Rattle.std.specs.Prelude.{ℕ, zero, suc, ◌+◌, ◌*◌, ◌/◌, ◌%◌, ◌^◌, Bool, true, cond, ◌&&◌, ltb, List, [], ◌∷◌, ◌++◌, map, length, Some, None, Option, ◌==◌, nat_lt}
+use Rattle.std.specs.Prelude.{ℕ, zero, suc, ◌+◌, ◌*◌, ◌/◌, ◌%◌, ◌^◌, Bool, if◌then◌else◌, ◌&&◌, List, [], ◌∷◌, ◌++◌, map, length, take, drop, Some, None, Option, ◌==◌, nat_lt}
+use Rattle.std.specs.List.{list_all}
 
 -- each element passes
 abbrev pub every : {X : Type 0} → (X → Bool) → List X → Bool
-every f [] = true
-every f (x ∷ xs) = f x && every f xs
+every f xs = list_all f xs
 
 -- a list of n letters below q
 abbrev pub is_row : ℕ → ℕ → List ℕ → Bool
-is_row n q w = length w == n && every (λ l. ltb l q) w
+is_row n q w = length w == n && every (λ l. nat_lt l q) w
 
 -- the letters from a on, i of them
 unfoldable pub span : ℕ → ℕ → List ℕ
@@ -35,9 +35,14 @@ number p x = number_from p 0 x
 
 -- a number, where it fits 64 bits
 abbrev pub if_fits : ℕ → Option ℕ
-if_fits v = cond (nat_lt v (2 ^ 64)) (Some v) None
+if_fits v = if nat_lt v (2 ^ 64) then Some v else None
 
 -- the message with a given number: k letters in base p, the first highest
 unfoldable pub digits : ℕ → ℕ → ℕ → List ℕ
 digits p zero v = []
 digits p (suc k) v = digits p k (v / p) ++ (v % p) ∷ []
+
+-- the first n rows of k letters that lie one after another
+abbrev pub rows : (k n : ℕ) → List ℕ → List (List ℕ)
+rows k zero bs = []
+rows k (suc n) bs = take k bs ∷ rows k n (drop k bs)

@@ -1,5 +1,5 @@
 -- What a list of messages holds, and in which order.
-use Rattle.std.specs.Prelude.{ℕ, ◌+◌, Bool, true, false, cond, ◌&&◌, ◌||◌, List, [], ◌∷◌, ◌==◌, nat_lt}
+use Rattle.std.specs.Prelude.{ℕ, ◌+◌, Bool, true, false, if◌then◌else◌, ◌&&◌, ◌||◌, List, [], ◌∷◌, ◌==◌, nat_lt}
 use Rattle.code.specs.Messages.{every}
 
 -- lexicographic by letter
@@ -23,4 +23,4 @@ same (x ∷ xs) (y ∷ ys) = x == y && same xs ys
 -- how often x stands in a list
 abbrev pub occurs : List ℕ → List (List ℕ) → ℕ
 occurs x [] = 0
-occurs x (y ∷ L) = cond (same x y) 1 0 + occurs x L
+occurs x (y ∷ L) = (if same x y then 1 else 0) + occurs x L

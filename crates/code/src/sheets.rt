@@ -6,6 +6,7 @@ ghost use Rattle.code.specs.Meaning.{below};
 
 use sheet::Marks;
 
+// Whether the letters that stand are below q.
 fn is_below(marks: Marks, q: usize) -> bool
     ensures { result ≡ below q 256 (stands marks) }
 {
@@ -17,20 +18,9 @@ fn is_below(marks: Marks, q: usize) -> bool
     true
 }
 
-fn are_below(sheet: &[Marks], q: usize) -> bool
-    ensures { result ≡ every (below q 256) (sheet_of sheet.now) }
-{
-    for m in sheet {
-        if !is_below(*m, q) {
-            return false;
-        }
-    }
-    true
-}
-
 // Whether the sheet has n places, and no letter from q on stands.
 pub fn is_sheet(sheet: &[Marks], n: usize, q: usize) -> bool
     ensures { result ≡ (length sheet.now == n && every (below q 256) (sheet_of sheet.now)) }
 {
-    sheet.len() == n && are_below(sheet, q)
+    sheet.len() == n && sheet.iter().all(|marks| is_below(*marks, q))
 }

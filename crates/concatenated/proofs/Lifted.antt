@@ -1,5 +1,5 @@
 -- One block listed, and what comes of it.
-use Rattle.std.proofs.Common.{◌≡◌, ℕ, ◌+◌, ◌-◌, ◌*◌, ◌^◌, ◌<◌, ◌≤◌, Bool, true, false, cond, ◌&&◌, leb, List, ◌++◌, length, take, drop, replicate, Ok, Err, Result, sym, refl, ap, ◌∙◌, subst, arith}
+use Rattle.std.proofs.Common.{◌≡◌, ℕ, ◌+◌, ◌-◌, ◌*◌, ◌≤◌, Bool, true, false, cond, ◌&&◌, ltb, leb, List, ◌++◌, length, replicate, Ok, Err, Result, sym, refl, ap, ◌∙◌, subst, arith}
 use Rattle.std.proofs.lemmas.Nat.{mul-le}
 use Rattle.std.proofs.lemmas.List.{length-append}
 use Rattle.std.proofs.lemmas.Bool.{cond-true, and_from, le-leb}
@@ -8,14 +8,16 @@ use Rattle.fault.specs.declared.Fault.TheVariants.{Reach as OutOfReach, Short}
 use Rattle.fault.specs.declared.Reach.{Reach}
 use Rattle.code.specs.Meaning.{Meaning, Verdict, within, beyond, is_sheet, listing}
 use Rattle.sheet.specs.Letters.{Sheet}
-use Rattle.code.specs.Messages.{every, is_row, each, messages, number}
+use Rattle.code.specs.Messages.{every, is_row, rows, each, messages, number}
 use Rattle.code.specs.Rule.{ListingRule}
 use Rattle.code.specs.Answers.{listed, shown, reached, laid}
 use Rattle.code.proofs.Numbering.{messages_count}
 use Rattle.code.proofs.Rows.{listing_rows, kept_length, each_rows_length}
 use Rattle.concatenated.specs.Lifted.{numbers}
-use Rattle.concatenated.specs.Lifting.{gathered, Listable}
-use Rattle.concatenated.proofs.Gathered.{gathered_all, rows_fit}
+use Rattle.concatenated.specs.Lifting.{Listable}
+use Rattle.concatenated.proofs.Gathered.{numbers_fit}
+use Rattle.code.proofs.Laid.{rows_laid}
+use Rattle.code.proofs.Alone.{row_length}
 
 cond_ok : (b : Bool) (c n : ℕ) → ◌≡◌ {A = Result ℕ Fault} (Ok c) (cond b (Ok n) (Err Short)) → c ≡ n
 cond_ok true c n e = cc
@@ -34,9 +36,9 @@ module _ (mi : Meaning) (a : ℕ) (B : Sheet) (ri : ListingRule mi) (can : Lista
   L : List (List ℕ)
   L = listing mi B a
 
-  rows : every (is_row mi.k mi.p) L ≡ true
+  listed_rows : every (is_row mi.k mi.p) L ≡ true
   unfolding L
-  rows = listing_rows mi B a
+  listed_rows = listing_rows mi B a
 
   short_list : length L ≤ 256
   unfolding L listing
@@ -66,18 +68,19 @@ module _ (mi : Meaning) (a : ℕ) (B : Sheet) (ri : ListingRule mi) (can : Lista
     pub lift_room : count * mi.k ≤ length bytes
     lift_room =
         let l : length bytes ≡ length (each (λ x. x) L) + length (replicate {A = ℕ} (4096 - length (each (λ x. x) L)) 0) = ap length bytes_are ∙ length-append (each (λ x. x) L) _ in
-        let r = each_rows_length mi.k mi.p L rows in
+        let r = each_rows_length mi.k mi.p L listed_rows in
         let c : count * mi.k ≡ length L * mi.k = ap (λ z. z * mi.k) count_is in
         omega arith
 
-    pub lift_fits : (c : ℕ) → c < count → number mi.p (take mi.k (drop (c * mi.k) bytes)) < 256
-    lift_fits c h =
-        let r = rows_fit mi.p mi.k L (replicate (4096 - length (each (λ x. x) L)) 0) rows c (let q = count_is in omega arith) in
-        let s : number mi.p (take mi.k (drop (c * mi.k) bytes)) < mi.p ^ mi.k = subst (λ z. number mi.p (take mi.k (drop (c * mi.k) z)) < mi.p ^ mi.k) (sym bytes_are) r in
-        omega (arith, can.few)
+    -- what lies in the buffer is the list
+    rows_are : rows mi.k count bytes ≡ L
+    rows_are =
+        ap (rows mi.k count) bytes_are ∙ ap (λ z. rows mi.k z (each (λ x. x) L ++ replicate (4096 - length (each (λ x. x) L)) 0)) count_is
+        ∙ rows_laid mi.k L _ (is_row mi.k mi.p) (row_length mi.k mi.p) listed_rows
 
-    pub lift_numbers : gathered mi.p mi.k count bytes ≡ numbers mi.p (listing mi B a)
+    pub lift_fits : every (λ m. ltb (number mi.p m) 256) (rows mi.k count bytes) ≡ true
+    lift_fits = subst (λ l. every (λ m. ltb (number mi.p m) 256) l ≡ true) (sym rows_are) (numbers_fit mi.p mi.k L can.few listed_rows)
+
+    pub lift_numbers : numbers mi.p (rows mi.k count bytes) ≡ numbers mi.p (listing mi B a)
     unfolding L
-    lift_numbers =
-        ap (gathered mi.p mi.k count) bytes_are ∙ ap (λ z. gathered mi.p mi.k z (each (λ x. x) L ++ replicate (4096 - length (each (λ x. x) L)) 0)) count_is
-        ∙ gathered_all mi.p mi.k L _ rows
+    lift_numbers = ap (numbers mi.p) rows_are

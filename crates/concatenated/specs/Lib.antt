@@ -1,6 +1,7 @@
 pub mod Lifted
 pub mod Concatenation
 pub mod Reaching
+pub mod Values
 pub mod Writing
 pub mod Lifting
 pub mod Law

@@ -1,18 +1,13 @@
 -- What lifting a sheet answers, block after block.
-use Rattle.std.specs.Prelude.{◌≡◌, ℕ, zero, suc, ◌*◌, ◌^◌, ◌≤◌, true, List, length, Ok, Err, Result}
+use Rattle.std.specs.Prelude.{◌≡◌, ℕ, ◌*◌, ◌^◌, ◌≤◌, true, length, Ok, Err, Result}
 use Rattle.fault.specs.declared.Reach.{Reach}
-use Rattle.sheet.specs.Letters.{Letters, Sheet, none, join}
+use Rattle.sheet.specs.Letters.{Sheet}
 use Rattle.sheet.specs.Standing.{stands}
 use Rattle.sheet.specs.declared.marks.Marks.{Marks}
-use Rattle.code.specs.Messages.{every, number}
+use Rattle.code.specs.Messages.{every}
 use Rattle.code.specs.Meaning.{Meaning, Verdict, within, beyond, below, is_sheet, listing}
-use Rattle.concatenated.specs.Lifted.{block, numbers, lifted}
+use Rattle.concatenated.specs.Lifted.{numbers, lifted}
 use Rattle.concatenated.specs.Concatenation.{places_limit, or_block, reach_from, concatenated, Joined}
-
--- the numbers of the first c of messages of k letters, one after another
-abbrev pub gathered : ℕ → ℕ → ℕ → List ℕ → Letters
-gathered p k zero bs = none
-gathered p k (suc c) bs = join (number p (block k bs c)) (gathered p k c bs)
 
 -- two codes that join, a sheet of the concatenated code, and an agreement in range
 pub record InRange (mo mi : Meaning) (a : ℕ) (s : Sheet) (t : ℕ) : Type 0 where

@@ -8,7 +8,6 @@ use code::{Code, spell};
 
 // The largest letter of a code's messages.
 pub(crate) fn largest<C: Code>(code: &C) -> u8
-    requires made { C.made code.now }
     ensures { result + 1 ≡ (C.means code.now).p }
 {
     (code.base() - 1) as u8
@@ -16,7 +15,6 @@ pub(crate) fn largest<C: Code>(code: &C) -> u8
 
 // Writes the inner word of the message with this number.
 fn write_word<I: Code>(inner: &I, letter: u8, part: &mut [u8])
-    requires made { I.made inner.now }
     requires whole { length part.old ≡ (I.means inner.now).n }
     ensures { part.new ≡ inner_word (I.means inner.now) letter }
 {
@@ -28,7 +26,6 @@ fn write_word<I: Code>(inner: &I, letter: u8, part: &mut [u8])
 
 // The same, into block b of a word, where blocks have n letters.
 fn write_block<I: Code>(inner: &I, letter: u8, n: usize, b: usize, word: &mut [u8])
-    requires made { I.made inner.now }
     requires width { n ≡ (I.means inner.now).n }
     requires room { b * n + n ≤ length word.old }
     ensures { word.new ≡ with_block n b (inner_word (I.means inner.now) letter) word.old }
@@ -38,11 +35,11 @@ fn write_block<I: Code>(inner: &I, letter: u8, n: usize, b: usize, word: &mut [u
 
 // Writes the inner word of each outer letter, block after block.
 pub(crate) fn write_blocks<I: Code>(inner: &I, above: &[u8], word: &mut [u8])
-    requires made { I.made inner.now }
     requires whole { length word.old ≡ length above.now * (I.means inner.now).n }
     ensures { word.new ≡ each (inner_word (I.means inner.now)) above.now }
 {
     let n = inner.places();
+    // By index: what is written through an iterator is not known to a proof afterwards.
     for b in 0..above.len() {
         write_block(inner, above[b], n, b, word);
     }

@@ -1,5 +1,5 @@
 -- The smallest number that passes a test.
-use Rattle.std.proofs.Common.{◌≡◌, ℕ, zero, suc, ◌+◌, ◌<◌, ◌≤◌, Bool, true, false, Some, None, sym, refl, ap, ◌∙◌, ⊎_elim, arith}
+use Rattle.std.proofs.Common.{◌≡◌, ℕ, zero, suc, ◌+◌, ◌<◌, ◌≤◌, Bool, true, false, Some, sym, ap, ◌∙◌, ⊎_elim, arith}
 use Rattle.std.proofs.lemmas.Bool.{cond-true, cond-false, cases_Bool, cases_eq, both_ways}
 use Rattle.counting.specs.Counting.{smallest}
 
@@ -43,11 +43,6 @@ find_first test b (suc left) i lo hi e =
       },
     ))
     (cases_Bool (test b))
-
--- none passes
-pub smallest_none : (test : ℕ → Bool) (b left : ℕ) → ((i : ℕ) → b ≤ i → i < b + left → test i ≡ false) → None ≡ smallest test b left
-smallest_none test b zero h = refl
-smallest_none test b (suc left) h = sym (cond-false (test b) _ _ (h b (omega arith) (omega arith)) ∙ sym (smallest_none test (suc b) left (λ i lo hi. h i (omega arith) (omega arith))))
 
 -- what is found passes, and lies where it was looked for
 pub smallest_passes : (test : ℕ → Bool) (b left t : ℕ) → smallest test b left ≡ Some t → (test t ≡ true) × (b ≤ t) × (t < b + left)

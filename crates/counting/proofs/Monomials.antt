@@ -5,14 +5,6 @@ use Rattle.algebra.proofs.Totals.{monomials_is}
 use Rattle.algebra.specs.Interpolation.{total, monomials}
 use Rattle.counting.specs.Counting.{Limits, suits, smallest, in_reach}
 
-pub monomials_more : (J v D : ℕ) → total (J + 1) (λ j. suc D - v * j) ≡ total J (λ j. suc D - v * j) + (suc D - v * J)
-unfolding total
-monomials_more J v D = ap (λ z. total z (λ j. suc D - v * j)) (let e : J + 1 ≡ suc J = omega arith in e)
-
-pub monomials_none : (v D : ℕ) → total 0 (λ j. suc D - v * j) ≡ 0
-unfolding total
-monomials_none v D = refl
-
 pub total_le : (J b : ℕ) (f : ℕ → ℕ) → ((j : ℕ) → f j ≤ b) → total J f ≤ J * b
 unfolding total
 total_le zero b f h = omega arith

@@ -1,5 +1,5 @@
 -- The counting rule, by which a load is in reach.
-use Rattle.std.specs.Prelude.{ℕ, zero, suc, ◌+◌, ◌-◌, ◌*◌, ◌/◌, Bool, cond, ◌&&◌, is_some, Some, None, Option, nat_le, nat_lt}
+use Rattle.std.specs.Prelude.{ℕ, zero, suc, ◌+◌, ◌-◌, ◌*◌, ◌/◌, Bool, if◌then◌else◌, ◌&&◌, is_some, Some, None, Option, nat_le, nat_lt}
 use Rattle.algebra.specs.Interpolation.{monomials}
 
 -- the bounds of the method, which may grow
@@ -25,7 +25,7 @@ suits L v t N r = nat_le (r * t - 1) L.degree && nat_lt (conditions N r) (monomi
 -- the smallest number from b on, of those below b + left, that passes
 abbrev pub smallest : (ℕ → Bool) → (b left : ℕ) → Option ℕ
 smallest test b zero = None
-smallest test b (suc left) = cond (test b) (Some b) (smallest test (suc b) left)
+smallest test b (suc left) = if test b then Some b else smallest test (suc b) left
 
 -- the smallest multiplicity by which a load N is in reach at t
 abbrev pub by_counting : Limits → (v t N : ℕ) → Option ℕ

@@ -4,7 +4,7 @@
 
 ghost use Rattle.std.specs.Prelude.{◌≡◌, ◌-◌, ◌≤◌, nat_lt};
 ghost use Rattle.algebra.specs.Interpolation.{monomials};
-ghost use Rattle.counting.specs.Counting.{limits, conditions, suits, smallest, by_counting};
+ghost use Rattle.counting.specs.Counting.{limits, conditions, suits, by_counting};
 
 // The bounds of the method: multiplicities from 1, powers of y and weighted degrees from 0.
 pub const MAX_MULTIPLICITY: usize = 4;
@@ -17,12 +17,13 @@ pub const MAX_DEGREE: usize = 63;
 const MOST_MONOMIALS: usize = 1024;
 
 // How many monomials have a power of y up to MAX_POWER and weighted degree d at most, the weight of y being v.
+#[tactic(auto, using(algebra::proofs::Totals::monomials_is), unfolding(algebra::specs::Interpolation::total))]
 fn count_monomials(v: usize, d: usize) -> usize
     requires { d ≤ 63 }
     ensures { result ≡ monomials 16 v d }
 {
     let mut sum = 0;
-    for j in 0..MAX_POWER + 1 {
+    for j in 0..=MAX_POWER {
         sum += (d + 1).saturating_sub(v.saturating_mul(j));
     }
     sum
@@ -38,6 +39,7 @@ fn exceeds(monomials: usize, load: usize, r: usize) -> bool
 }
 
 // Whether multiplicity r is admitted, with more monomials than conditions.
+#[tactic(auto, using(crate::proofs::Steps::grown, crate::proofs::Steps::room_le, crate::proofs::Steps::conditions_low), unfolding(crate::specs::Counting::suits))]
 fn does_suit(v: usize, t: usize, load: usize, r: usize) -> bool
     requires low { 1 ≤ r }
     requires high { r ≤ 4 }
@@ -53,23 +55,14 @@ fn does_suit(v: usize, t: usize, load: usize, r: usize) -> bool
     exceeds(count_monomials(v, d), load, r)
 }
 
-// The smallest multiplicity from `first` on by which a load is in reach.
-fn smallest_from(first: usize, v: usize, t: usize, load: usize) -> Option<usize>
-    requires low { 1 ≤ first }
-    requires high { first ≤ 5 }
-    ensures { result ≡ smallest (suits limits v t load) first (5 - first) }
+// The smallest multiplicity by which a load is in reach at the agreement t, for messages of v + 1 letters; none where it is out of reach.
+pub fn counting(v: usize, t: usize, load: usize) -> Option<usize>
+    ensures { result ≡ by_counting limits v t load }
 {
-    for r in first..MAX_MULTIPLICITY + 1 {
+    for r in 1..=MAX_MULTIPLICITY {
         if does_suit(v, t, load, r) {
             return Some(r);
         }
     }
     None
-}
-
-// The smallest multiplicity by which a load is in reach at the agreement t, for messages of v + 1 letters; none where it is out of reach.
-pub fn counting(v: usize, t: usize, load: usize) -> Option<usize>
-    ensures { result ≡ by_counting limits v t load }
-{
-    smallest_from(1, v, t, load)
 }

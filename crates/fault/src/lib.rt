@@ -2,18 +2,23 @@
 
 #![tactic(auto)]
 
-ghost use Rattle.std.specs.Prelude.{◌≡◌};
+ghost use Rattle.std.specs.Prelude.{◌≡◌, Some};
 ghost use Rattle.fault.specs.Numbers.{number};
+ghost use Rattle.fault.specs.Words.{words};
+ghost use Rattle.fault.specs.declared.Fault.TheVariants.{Reach as OutOfReach};
+
+use std::error::Error;
+use std::fmt;
 
 // Where a list is out of reach: how many codes further down the refusal arose, and the first place of the part that it speaks of.
 // A place has 16 bits, since codes may grow to more places than a byte counts.
-#[derive(Clone, Copy, Debug)]
+#[derive(Clone, Copy, Debug, PartialEq, Eq)]
 pub struct Reach {
     pub level: u8,
     pub place: u16,
 }
 
-#[derive(Clone, Copy, Debug)]
+#[derive(Clone, Copy, Debug, PartialEq, Eq)]
 pub enum Fault {
     // refused for the input
     // not a listed field
@@ -91,3 +96,28 @@ impl Fault {
         }
     }
 }
+
+impl From<Reach> for Fault {
+    ghost from_gives = { λ reach fault. fault ≡ OutOfReach reach };
+
+    fn from(reach: Reach) -> Fault {
+        Fault::Reach(reach)
+    }
+}
+
+// The refusal in a line: its number, and where a list is out of reach.
+impl fmt::Display for Fault {
+    ghost output = { λ f. Some (words f) };
+
+    fn fmt<W: fmt::Write>(&self, f: &mut fmt::Formatter<W>) -> fmt::Result {
+        let number = self.number();
+        match self {
+            Fault::Reach(Reach { level, place }) => {
+                write!(f, "refused {number} level {level} place {place}")
+            }
+            _ => write!(f, "refused {number}"),
+        }
+    }
+}
+
+impl Error for Fault {}

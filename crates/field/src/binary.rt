@@ -1,5 +1,5 @@
 // The fields of 2^m elements: family 2. The bits of a code are the coefficients of a polynomial, bit 0 the constant.
-ghost use Rattle.std.specs.Prelude.{◌≡◌, ◌^◌, ◌<◌, T, Ok, Err};
+ghost use Rattle.std.specs.Prelude.{◌≡◌, refl, ◌^◌, ◌<◌, T, Ok, Err};
 ghost use Rattle.fault.specs.declared.Fault.TheVariants.{Field as Unlisted};
 ghost use Rattle.algebra.specs.Listed.{is_exponent};
 ghost use Rattle.algebra.specs.Binary.{binary, modulus, times, times_x};
@@ -31,48 +31,47 @@ impl BinaryField {
     }
 }
 
-fn modulus_of(m: u8) -> u16
-    requires { T (is_exponent m) }
-    ensures value { result ≡ modulus m }
-    ensures small { result < 2 ^ 9 }
-{
-    MODULI[m as usize - 2]
-}
-
-// x times r, reduced by the modulus g.
-fn times_x(m: u8, g: u16, r: u16) -> u16
-    requires listed { T (is_exponent m) }
-    requires below { r < 2 ^ m }
-    requires small { g < 2 ^ 9 }
-    ensures { result ≡ times_x m g r }
-{
-    (r * 2) ^ ((r >> (m - 1)) % 2 * g)
-}
-
-// The product of two codes below the size, from the highest bit of b down: x times what there is, and a where the bit is set.
-fn times_reduced(m: u8, a: u8, b: u8) -> u8
-    requires listed { T (is_exponent m) }
-    requires left { a < 2 ^ m }
-    ensures { result ≡ times m (modulus m) m a b }
-{
-    let g = modulus_of(m);
-    let mut r = 0u16;
-    for i in (0..m).rev() {
-        r = ((b >> i) % 2 * a) as u16 ^ times_x(m, g, r);
+impl BinaryField {
+    fn modulus(self) -> u16
+        ensures value { result ≡ modulus self.m }
+        ensures small { result < 2 ^ 9 }
+    {
+        MODULI[self.m as usize - 2]
     }
-    r as u8
+
+    // x times r, reduced by the modulus g.
+    fn times_x(self, g: u16, r: u16) -> u16
+        requires below { r < 2 ^ self.m }
+        requires small { g < 2 ^ 9 }
+        ensures { result ≡ times_x self.m g r }
+    {
+        (r * 2) ^ ((r >> (self.m - 1)) % 2 * g)
+    }
+
+    // The product of two codes below the size, from the highest bit of b down: x times what there is, and a where the bit is set.
+    fn times_reduced(self, a: u8, b: u8) -> u8
+        requires { a < 2 ^ self.m }
+        ensures { result ≡ times self.m (modulus self.m) self.m a b }
+    {
+        let g = self.modulus();
+        let mut r = 0u16;
+        for i in (0..self.m).rev() {
+            r = ((b >> i) % 2 * a) as u16 ^ self.times_x(g, r);
+        }
+        r as u8
+    }
 }
 
 impl Field for BinaryField {
     const FAMILY: u8 = 2;
 
+    ghost FAMILY = { 2 };
+
     ghost means = { λ f. binary f.m };
 
-    ghost lawful = { λ f. binary_laws f.m f.listed };
+    ghost family = { λ f. refl };
 
-    fn family_number(&self) -> u8 {
-        Self::FAMILY
-    }
+    ghost lawful = { λ f. binary_laws f.m f.listed };
 
     fn size(&self) -> u16 {
         1 << self.m
@@ -87,6 +86,6 @@ impl Field for BinaryField {
     }
 
     fn mul(&self, a: u8, b: u8) -> u8 {
-        times_reduced(self.m, operand(a, self.size()), operand(b, self.size()))
+        self.times_reduced(operand(a, self.size()), operand(b, self.size()))
     }
 }

@@ -1,5 +1,5 @@
 // The whole numbers modulo a listed prime: family 1.
-ghost use Rattle.std.specs.Prelude.{◌≡◌, T, Ok, Err};
+ghost use Rattle.std.specs.Prelude.{◌≡◌, refl, T, Ok, Err};
 ghost use Rattle.fault.specs.declared.Fault.TheVariants.{Field as Unlisted};
 ghost use Rattle.algebra.specs.Listed.{is_prime_size};
 ghost use Rattle.algebra.specs.Prime.{prime};
@@ -30,13 +30,13 @@ impl PrimeField {
 impl Field for PrimeField {
     const FAMILY: u8 = 1;
 
+    ghost FAMILY = { 1 };
+
     ghost means = { λ f. prime f.p };
 
-    ghost lawful = { λ f. prime_laws f.p f.listed };
+    ghost family = { λ f. refl };
 
-    fn family_number(&self) -> u8 {
-        Self::FAMILY
-    }
+    ghost lawful = { λ f. prime_laws f.p f.listed };
 
     fn size(&self) -> u16 {
         self.p as u16

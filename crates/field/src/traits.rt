@@ -1,16 +1,16 @@
 // A field, by what it means: one value, on which the field laws hold.
-ghost use Rattle.std.specs.Prelude.{◌≡◌};
+ghost use Rattle.std.specs.Prelude.{◌≡◌, ℕ};
 ghost use Rattle.algebra.specs.Field.{Meaning, Laws};
 
 pub trait Field {
     // the number of the family
     const FAMILY: u8;
 
+    ghost FAMILY: { ℕ };
+
     ghost means: { Self → Meaning };
 
-    // The family's number. Each `impl` answers its own FAMILY, and clauses speak of this answer.
-    fn family_number(&self) -> u8
-        ensures { result ≡ (means self.now).family };
+    ghost family: { (f : Self) → (means f).family ≡ FAMILY };
 
     // How many elements there are.
     fn size(&self) -> u16

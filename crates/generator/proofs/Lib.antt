@@ -1,4 +1,5 @@
 pub mod Checks
-pub mod Making
+pub mod Made
 pub mod Buffers
 pub mod Turns
+pub mod Counts

@@ -1,5 +1,5 @@
 -- What a generator code means.
-use Rattle.std.specs.Prelude.{◌≡◌, ℕ, zero, suc, ◌+◌, ◌-◌, ◌*◌, ◌^◌, ◌<◌, ◌≤◌, min, Bool, true, cond, not, ◌&&◌, List, [], ◌∷◌, map, filter, ◌==◌, nat_eq, nat_le, slice_index}
+use Rattle.std.specs.Prelude.{◌≡◌, ℕ, zero, suc, ◌+◌, ◌-◌, ◌*◌, ◌^◌, ◌<◌, ◌≤◌, min, Bool, true, not, ◌&&◌, List, [], ◌∷◌, map, filter, ◌==◌, nat_eq, nat_le, slice_index, if◌then◌else◌}
 use Rattle.algebra.specs.Field.{Meaning as Field}
 use Rattle.code.specs.Meaning.{Meaning, within}
 use Rattle.sheet.specs.Letters.{Sheet}
@@ -44,7 +44,7 @@ gen_word F g n x = map (λ j. letter F g n x j) (span 0 n)
 -- how many letters are not zero
 abbrev pub nonzeros : List ℕ → ℕ
 nonzeros [] = 0
-nonzeros (l ∷ w) = cond (l == 0) 0 1 + nonzeros w
+nonzeros (l ∷ w) = (if l == 0 then 0 else 1) + nonzeros w
 
 -- every letter is zero
 abbrev pub blank : List ℕ → Bool
@@ -82,7 +82,7 @@ gen_meaning F g n k = record {
 
 -- the letter in row i and column j of the identity
 abbrev pub unit : (i j : ℕ) → ℕ
-unit i j = cond (i == j) 1 0
+unit i j = if i == j then 1 else 0
 
 -- what a table keeps to: the limits, letters of the field, and the identity in its first k columns
 pub record Table (F : Field) (g : List ℕ) (n k : ℕ) : Type 0 where

@@ -1,31 +1,28 @@
 -- The values of the program's type `Generator`, by what they mean. A field's meaning comes from its own type.
-use Rattle.std.specs.Prelude.{ℕ, ◌*◌, cond, ◌&&◌, List, Ok, Err, Result}
+use Rattle.std.specs.Prelude.{◌≡◌, ℕ, ◌*◌, ◌&&◌, List, Ok, Err, Result, if◌then◌else◌}
 use Rattle.fault.specs.declared.Fault.{Fault}
 use Rattle.fault.specs.declared.Fault.TheVariants.{Shape, Generator as BadTable}
 use Rattle.algebra.specs.Field.{Meaning as Field}
+use Rattle.field.specs.declared.traits.Field.{Ghosts}
 use Rattle.code.specs.Answers.{padded}
 use Rattle.code.specs.Meaning.{Meaning}
 use Rattle.code.specs.Messages.{is_row}
 use Rattle.generator.specs.declared.table.Generator.{Generator}
-use Rattle.generator.specs.Generator.{gen_meaning, gen_distance, gen_shaped, has_identity, table_size, Table}
+use Rattle.generator.specs.Generator.{gen_meaning, gen_distance, gen_shaped, has_identity, table_size}
 
-module _ {X : Type 0} (means : X → Field) where
+-- which test of a making fails, if any
+abbrev pub checked : Field → (n k : ℕ) → List ℕ → Result (Unit {0}) Fault
+checked F n k rows = if gen_shaped F.size n k then (if is_row (k * n) F.size rows && has_identity rows n k then Ok tt else Err BadTable) else Err Shape
+
+module _ {X : Type 0} {G : Ghosts X} where
   -- the code that a value is
-  abbrev pub meaning_of : Generator X → Meaning
-  meaning_of c = gen_meaning (means c.field) c.table c.n c.k
+  abbrev pub meaning_of : Generator X G → Meaning
+  meaning_of c = gen_meaning (G.means c.field) c.table c.n c.k
 
-  -- what a making sees to
-  abbrev pub Made : Generator X → Type 0
-  Made c = Table (means c.field) c.table c.n c.k
+  abbrev pub distance_of : Generator X G → ℕ
+  distance_of c = gen_distance (G.means c.field) c.table c.n c.k
 
-  abbrev pub distance_of : Generator X → ℕ
-  distance_of c = gen_distance (means c.field) c.table c.n c.k
-
-  -- what a making answers: the value with its rows in a table of fixed size, or which test failed
-  abbrev pub making : X → (n k : ℕ) → List ℕ → Result (Generator X) Fault
-  making field n k rows =
-      cond (gen_shaped (means field).size n k)
-      (cond (is_row (k * n) (means field).size rows && has_identity rows n k)
-      (Ok (record { field = field; table = padded table_size rows; n = n; k = k }))
-      (Err BadTable))
-      (Err Shape)
+  -- what a making answers: the value with its rows in a table of fixed size, or the refusal
+  abbrev pub Makes : X → (n k : ℕ) → List ℕ → Result (Generator X G) Fault → Type 0
+  Makes field n k rows (Ok c) = (checked (G.means field) n k rows ≡ Ok tt) × (c.field ≡ field) × (c.table ≡ padded table_size rows) × (c.n ≡ n) × (c.k ≡ k)
+  Makes field n k rows (Err f) = checked (G.means field) n k rows ≡ Err f

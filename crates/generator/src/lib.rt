@@ -4,7 +4,9 @@
 
 mod laws;
 mod listing;
+mod making;
 mod table;
+mod trying;
 mod words;
 
 pub use laws::generator_stands;

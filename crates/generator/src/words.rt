@@ -1,20 +1,9 @@
 // The steps of a generator code on rows of letters, and its limits.
-ghost use Rattle.std.specs.Prelude.{◌≡◌, ◌+◌, ◌*◌, ◌<◌, ◌≤◌, length};
-ghost use Rattle.generator.specs.Generator.{letter, gen_word, nonzeros, blank, unit, unit_row, has_identity, gen_shaped, max_rows, max_places, table_size};
+ghost use Rattle.std.specs.Prelude.{◌≡◌, ◌+◌, ◌*◌, ◌<◌, ◌≤◌, length, nat_eq, slice_index};
+ghost use Rattle.generator.specs.Generator.{letter, gen_word, nonzeros, blank, unit, all_below, has_identity, gen_shaped, max_rows, max_places, table_size};
 
+use crate::table::{MAX_MESSAGES, MAX_PLACES, MAX_ROWS};
 use field::Field;
-
-// The most rows of a table.
-pub(crate) const MAX_ROWS: usize = 8;
-
-// The most columns.
-pub(crate) const MAX_PLACES: usize = 16;
-
-// The most messages.
-pub(crate) const MAX_MESSAGES: u128 = 256;
-
-// The letters that a table has room for.
-pub(crate) const TABLE_SIZE: usize = MAX_ROWS * MAX_PLACES;
 
 // One letter of the word: the sum of message letter times row letter.
 fn letter_of<F: Field>(field: &F, table: &[u8], n: usize, message: &[u8], j: usize) -> u8
@@ -25,6 +14,7 @@ fn letter_of<F: Field>(field: &F, table: &[u8], n: usize, message: &[u8], j: usi
     ensures { result ≡ letter (F.means field.now) table.now n message.now j }
 {
     let mut sum = 0;
+    // By index: the letters of a column lie n apart.
     for i in (0..message.len()).rev() {
         sum = field.add(field.mul(message[i], table[i * n + j]), sum);
     }
@@ -38,6 +28,7 @@ pub(crate) fn word_of<F: Field>(field: &F, table: &[u8], message: &[u8], word: &
     requires n { length word.old ≤ max_places }
     ensures { word.new ≡ gen_word (F.means field.now) table.now (length word.old) message.now }
 {
+    // By index: what is written through an iterator is not known to a proof afterwards.
     for j in 0..word.len() {
         word[j] = letter_of(field, table, word.len(), message, j);
     }
@@ -47,25 +38,14 @@ pub(crate) fn word_of<F: Field>(field: &F, table: &[u8], message: &[u8], word: &
 pub(crate) fn nonzeros_of(word: &[u8]) -> usize
     ensures { result ≡ nonzeros word.now }
 {
-    let mut sum = 0;
-    for l in word {
-        if *l != 0 {
-            sum += 1;
-        }
-    }
-    sum
+    word.iter().filter(|l| **l != 0).count()
 }
 
 // Whether every letter is zero.
 pub(crate) fn is_blank(message: &[u8]) -> bool
     ensures { result ≡ blank message.now }
 {
-    for l in message {
-        if *l != 0 {
-            return false;
-        }
-    }
-    true
+    message.iter().all(|l| *l == 0)
 }
 
 // The letter in row i and column j of the identity.
@@ -75,16 +55,13 @@ fn unit(i: usize, j: usize) -> u8
     if i == j { 1 } else { 0 }
 }
 
-// Whether row i is that of the identity, in the first k columns.
-fn is_unit(table: &[u8], n: usize, k: usize, i: usize) -> bool
-    requires whole { length table.now ≡ k * n }
-    requires k { k ≤ n }
-    requires n { n ≤ max_places }
-    requires i { i < k }
-    ensures { result ≡ unit_row table.now n k i }
+// Whether a row begins with row i of the identity of k columns.
+fn is_unit(row: &[u8], k: usize, i: usize) -> bool
+    requires { k ≤ length row.now }
+    ensures { result ≡ all_below k (λ j. nat_eq (slice_index row.now j) (unit i j)) }
 {
-    for j in 0..k {
-        if table[i * n + j] != unit(i, j) {
+    for (j, letter) in row[..k].iter().enumerate() {
+        if *letter != unit(i, j) {
             return false;
         }
     }
@@ -98,8 +75,9 @@ pub(crate) fn is_identity(table: &[u8], n: usize, k: usize) -> bool
     requires n { n ≤ max_places }
     ensures { result ≡ has_identity table.now n k }
 {
+    // By index: chunks_exact would ask for a width that is not zero.
     for i in 0..k {
-        if !is_unit(table, n, k, i) {
+        if !is_unit(&table[i * n..i * n + n], k, i) {
             return false;
         }
     }

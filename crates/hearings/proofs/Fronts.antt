@@ -1,21 +1,6 @@
 -- A file is read record by record.
-use Rattle.std.proofs.Common.{◌≡◌, ℕ, zero, suc, ◌+◌, ◌-◌, ◌<◌, ◌≤◌, Bool, true, false, cond, leb, List, [], ◌∷◌, length, get_or, take, drop, sym, refl, ap, ◌∙◌, subst, one-add, arith, length-drop}
-use Rattle.std.proofs.lemmas.List.{take_all}
-use Rattle.std.proofs.lemmas.Bool.{le-leb, cond-true}
-use Rattle.hearings.specs.File.{Entry, entry, known, body, Front, nothing, first, front, then_more, entries_from, entries}
-
--- a record that is whole, as an index and two ranges have it
-pub whole : (left : List ℕ) (n : ℕ) (e : Entry) → known (get_or left 0 0) ≡ true → n ≡ body (get_or left 0 0) → 1 + n ≤ length left
-    → e ≡ entry (get_or left 0 0) (take (1 + n - 1) (drop 1 left)) → first e (take (length left - (1 + n)) (drop (1 + n) left)) ≡ front left
-whole [] n e k is fits same = absurd (omega arith)
-whole (kind ∷ rest) n e k is fits same =
-    let m : 1 + n - 1 ≡ n = omega arith in
-    let long : leb (body kind) (length rest) ≡ true = le-leb (body kind) (length rest) (subst (λ i. i ≤ length rest) is (omega arith)) in
-    ap (λ l. first e l) (take_all (length (kind ∷ rest) - (1 + n)) (drop (1 + n) (kind ∷ rest)) (simp length-drop (omega arith)))
-    ∙ ap (λ i. first e (drop i (kind ∷ rest))) (one-add n)
-    ∙ ap (λ f. first f (drop n rest)) (same ∙ ap (λ i. entry kind (take i rest)) m)
-    ∙ ap (λ i. first (entry kind (take i rest)) (drop i rest)) is
-    ∙ sym (cond-true _ _ _ k ∙ cond-true _ _ _ long)
+use Rattle.std.proofs.Common.{◌≡◌, ℕ, zero, suc, ◌-◌, ◌<◌, ◌≤◌, Bool, true, false, cond, leb, List, [], ◌∷◌, length, sym, refl, ap, ◌∙◌, subst, arith, length-drop}
+use Rattle.hearings.specs.File.{Entry, known, body, Front, nothing, first, front, then_more, entries_from, entries}
 
 -- what is left is shorter
 abbrev Shorter : ℕ → Front → Type 0

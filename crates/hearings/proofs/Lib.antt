@@ -1,5 +1,7 @@
 pub mod Wrote
 pub mod Letters
 pub mod Fronts
-pub mod Served
-mod Turned
+pub mod Chosen
+pub mod Bounds
+pub mod Held
+pub mod Texts

@@ -1,5 +1,5 @@
 -- A hearings file: records one after another.
-use Rattle.std.specs.Prelude.{ℕ, zero, suc, ◌-◌, Bool, cond, ◌&&◌, List, [], ◌∷◌, length, take, drop, ◌==◌, nat_le, slice_index}
+use Rattle.std.specs.Prelude.{ℕ, zero, suc, ◌-◌, Bool, ◌&&◌, List, [], ◌∷◌, length, take, drop, ◌==◌, nat_le, slice_index, if◌then◌else◌}
 use Rattle.fault.specs.declared.Fault.{Fault}
 use Rattle.fault.specs.declared.Fault.TheVariants.{Kind, Cut}
 use Rattle.record.specs.declared.calls.Call.{Call}
@@ -26,27 +26,31 @@ known kind = nat_le 1 kind && nat_le kind 4
 
 -- how many bytes follow a kind byte
 abbrev pub body : ℕ → ℕ
-body kind = cond (kind == 2) 2 1
+body kind = if kind == 2 then 2 else 1
 
 -- the record of a known kind with this body
 abbrev pub entry : ℕ → List ℕ → Entry
 entry kind bytes =
-    cond (kind == 1) (choose (slice_index bytes 0))
-    (cond (kind == 2) (call (Hear (slice_index bytes 0) (slice_index bytes 1)))
-    (cond (kind == 3) (call (Strike (slice_index bytes 0)))
-    (call (Lists (slice_index bytes 0) room))))
+    if kind == 1 then choose (slice_index bytes 0)
+    else if kind == 2 then call (Hear (slice_index bytes 0) (slice_index bytes 1))
+    else if kind == 3 then call (Strike (slice_index bytes 0))
+    else call (Lists (slice_index bytes 0) room)
 
 -- what stands at the front of the bytes that are left: nothing, or a record and the bytes after it
 pub data Front : Type 0 where
   nothing : Front
   first : Entry → List ℕ → Front
 
+-- what follows a known kind byte: a body and the bytes after it, or too few bytes
+abbrev pub after_kind : ℕ → List ℕ → Front
+after_kind kind rest =
+    if nat_le (body kind) (length rest)
+    then first (entry kind (take (body kind) rest)) (drop (body kind) rest)
+    else first (bad Cut) []
+
 abbrev pub front : List ℕ → Front
 front [] = nothing
-front (kind ∷ rest) =
-    cond (known kind)
-    (cond (nat_le (body kind) (length rest)) (first (entry kind (take (body kind) rest)) (drop (body kind) rest)) (first (bad Cut) []))
-    (first (bad Kind) [])
+front (kind ∷ rest) = if known kind then after_kind kind rest else first (bad Kind) []
 
 abbrev pub then_more : ℕ → (List ℕ → List (ℕ × Entry)) → Front → List (ℕ × Entry)
 then_more at more nothing = []

@@ -3,5 +3,4 @@ pub mod Lines
 pub mod File
 pub mod Text
 pub mod Values
-pub mod Actions
-pub mod Houses
+pub mod Readers

@@ -1,5 +1,5 @@
 -- The lines of a text. Words and numbers are parted by single spaces, and a line ends in byte 10.
-use Rattle.std.specs.Prelude.{ℕ, zero, suc, List, [], ◌∷◌, ◌++◌, take, drop, codes, decimal}
+use Rattle.std.specs.Prelude.{ℕ, zero, suc, List, [], ◌∷◌, ◌++◌, codes, decimal}
 use Rattle.fault.specs.Numbers.{number}
 use Rattle.fault.specs.declared.Fault.{Fault}
 use Rattle.fault.specs.declared.Fault.TheVariants.{Field, Shape, Generator, Join, Place, Letter, Agreement, Sheet, Length, Message, Kind, Cut, Long, Code, Reach, Short, Empty, Unchosen, Chosen, Twice, Full}
@@ -68,8 +68,3 @@ letters_from i (l ∷ ls) = field (gap i) l ++ letters_from (suc i) ls
 -- the letters of a message
 abbrev pub message_line : List ℕ → List ℕ
 message_line x = letters_from 0 x ++ newline
-
--- the first messages in a buffer, each of k letters
-abbrev pub rows : (k count : ℕ) → List ℕ → List (List ℕ)
-rows k zero bytes = []
-rows k (suc count) bytes = take k bytes ∷ rows k count (drop k bytes)

@@ -1,15 +1,15 @@
 -- The text of a hearings file.
-use Rattle.std.specs.Prelude.{ℕ, cond, List, [], ◌∷◌, ◌++◌, length, replicate, Some, None, Ok, Err, Option, nat_lt}
+use Rattle.std.specs.Prelude.{ℕ, List, [], ◌∷◌, ◌++◌, length, replicate, Some, None, Ok, Err, Option, nat_lt, if◌then◌else◌}
 use Rattle.fault.specs.declared.Fault.{Fault}
 use Rattle.fault.specs.declared.Fault.TheVariants.{Long, Code, Unchosen, Chosen}
 use Rattle.sheet.specs.Letters.{Sheet}
 use Rattle.code.specs.Meaning.{Meaning}
-use Rattle.code.specs.Messages.{each}
+use Rattle.code.specs.Messages.{each, rows}
 use Rattle.record.specs.declared.calls.Call.{Call}
 use Rattle.record.specs.declared.calls.Call.TheVariants.{Hear, Strike, List as Lists}
 use Rattle.record.specs.Book.{Answer, fresh, says, next, left_in}
 use Rattle.house_codes.specs.House.{house}
-use Rattle.hearings.specs.Lines.{choice_line, refusal, list_line, message_line, rows}
+use Rattle.hearings.specs.Lines.{choice_line, refusal, list_line, message_line}
 use Rattle.hearings.specs.File.{longest, room, Entry, choose, call, bad, entries}
 
 -- what the reader has: no code yet, or a code and its plain book
@@ -70,4 +70,4 @@ lines b (e ∷ es) = lines_of b e.0 e.1 ++ lines (turned b e.1) es
 -- the text of a file; one that is too long is not read
 unfoldable pub text_of : List ℕ → List ℕ
 unfolding lines
-text_of file = cond (nat_lt longest (length file)) (refusal longest Long) (lines unchosen (entries file))
+text_of file = if nat_lt longest (length file) then refusal longest Long else lines unchosen (entries file)

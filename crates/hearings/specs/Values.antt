@@ -1,13 +1,29 @@
 -- The values of the program's types, by what they mean.
-use Rattle.std.specs.Prelude.{ℕ, ◌*◌, ◌≤◌, [], length, Ok, Err, slice_index}
-use Rattle.record.specs.Book.{Answer}
-use Rattle.record.specs.declared.calls.Call.{Call}
+use Rattle.std.specs.Prelude.{◌≡◌, ℕ, false, List, [], Some, None, Ok, Err, Option, Result, slice_index}
+use Rattle.std.specs.Borrow.{Bor}
+use Rattle.fault.specs.declared.Fault.{Fault}
+use Rattle.fault.specs.declared.Fault.TheVariants.{Kind as UnknownKind}
+use Rattle.code.specs.Messages.{each, rows}
 use Rattle.record.specs.declared.calls.Call.TheVariants.{Hear, Strike, List as Lists}
+use Rattle.hearings.specs.declared.items.Kind.{Kind}
+use Rattle.hearings.specs.declared.items.Kind.TheVariants as kind
 use Rattle.hearings.specs.declared.items.Item.{Item}
 use Rattle.hearings.specs.declared.items.Item.TheVariants.{Choose, Heard, Struck, List as Listed}
-use Rattle.hearings.specs.declared.items.Front.{Front as FrontValue}
-use Rattle.hearings.specs.declared.items.Front.TheVariants.{End, Bad, First}
-use Rattle.hearings.specs.File.{room, Entry, choose, call, bad, Front, nothing, first}
+use Rattle.hearings.specs.declared.messages.Messages.{Messages}
+use Rattle.hearings.specs.Lines.{message_line}
+use Rattle.hearings.specs.File.{room, known, Entry, choose, call, bad, Front, nothing, first}
+
+-- the number of a kind
+abbrev pub number_of_kind : Kind → ℕ
+number_of_kind kind.Choose = 1
+number_of_kind kind.Heard = 2
+number_of_kind kind.Struck = 3
+number_of_kind kind.List = 4
+
+-- the kind with a number, or KIND where there is none
+abbrev pub Kinds : ℕ → Result Kind Fault → Type 0
+Kinds n (Ok k) = n ≡ number_of_kind k
+Kinds n (Err f) = (f ≡ UnknownKind) × (known n ≡ false)
 
 -- the record that a value of `Item` is
 abbrev pub entry_of : Item → Entry
@@ -16,26 +32,17 @@ entry_of (Heard b) = call (Hear (slice_index b.now 0) (slice_index b.now 1))
 entry_of (Struck b) = call (Strike (slice_index b.now 0))
 entry_of (Listed b) = call (Lists (slice_index b.now 0) room)
 
-abbrev pub front_of : FrontValue → Front
-front_of End = nothing
-front_of (Bad f) = first (bad f) []
-front_of (First item rest) = first (entry_of item) rest.now
+-- a record and the bytes after it, or why there is none
+abbrev pub part_of : Result (Item × Bor (List ℕ)) Fault → Front
+part_of (Ok p) = first (entry_of p.0) p.1.now
+part_of (Err f) = first (bad f) []
 
--- the body of a record has the bytes that its kind asks for
-abbrev pub Bodied : Item → Type 0
-Bodied (Choose b) = 1 ≤ length b.now
-Bodied (Heard b) = 2 ≤ length b.now
-Bodied (Struck b) = 1 ≤ length b.now
-Bodied (Listed b) = 1 ≤ length b.now
+-- the same, where nothing may be left
+abbrev pub front_of : Result (Option (Item × Bor (List ℕ))) Fault → Front
+front_of (Ok None) = nothing
+front_of (Ok (Some p)) = part_of (Ok p)
+front_of (Err f) = part_of (Err f)
 
-abbrev pub BodiedFront : FrontValue → Type 0
-BodiedFront End = Unit {0}
-BodiedFront (Bad f) = Unit {0}
-BodiedFront (First item rest) = Bodied item
-
--- the messages of a list that is answered lie in its buffer
-abbrev pub Fits : (k : ℕ) → Call → Answer → (size : ℕ) → Type 0
-Fits k (Hear p l) a size = Unit {0}
-Fits k (Strike p) a size = Unit {0}
-Fits k (Lists t r) (Ok count) size = (count * k ≤ size) × (count ≤ 256)
-Fits k (Lists t r) (Err f) size = Unit {0}
+-- the lines of the messages of a list
+abbrev pub message_lines : Messages → List ℕ
+message_lines x = each message_line (rows x.k x.count x.bytes.now)

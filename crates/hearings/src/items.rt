@@ -1,77 +1,78 @@
 // The records of a hearings file, which borrow their bodies from it.
-ghost use Rattle.std.specs.Prelude.{◌≡◌, true, length};
-ghost use Rattle.hearings.specs.File.{known, body, entry, front};
-ghost use Rattle.hearings.specs.Values.{entry_of, front_of, Bodied, BodiedFront};
+ghost use Rattle.std.specs.Prelude.{◌≡◌, ◌<◌, ◌≤◌, length, take, drop, MatchResult};
+ghost use Rattle.fault.specs.declared.Fault.TheVariants.{Cut};
+ghost use Rattle.hearings.specs.File.{front, after_kind};
+ghost use Rattle.hearings.specs.Values.{Kinds, number_of_kind, part_of, front_of};
 
 use fault::Fault;
 
+// What a record asks for.
+#[derive(Clone, Copy)]
+pub(crate) enum Kind {
+    Choose,
+    Heard,
+    Struck,
+    List,
+}
+
+impl TryFrom<u8> for Kind {
+    type Error = Fault;
+
+    ghost try_from_gives = { Kinds };
+
+    fn try_from(number: u8) -> Result<Kind, Fault> {
+        match number {
+            1 => Ok(Kind::Choose),
+            2 => Ok(Kind::Heard),
+            3 => Ok(Kind::Struck),
+            4 => Ok(Kind::List),
+            _ => Err(Fault::Kind),
+        }
+    }
+}
+
 // A record: its kind, and the part of the file that is its body.
 #[derive(Clone, Copy)]
-pub enum Item<'a> {
+pub(crate) enum Item<'a> {
     // the number of a house code
-    Choose(&'a [u8]),
+    Choose(&'a [u8; 1]),
     // a place and a letter
-    Heard(&'a [u8]),
+    Heard(&'a [u8; 2]),
     // a place
-    Struck(&'a [u8]),
+    Struck(&'a [u8; 1]),
     // an agreement
-    List(&'a [u8]),
+    List(&'a [u8; 1]),
 }
 
-// What stands at the front of the bytes that are left.
-#[derive(Clone, Copy)]
-pub(crate) enum Front<'a> {
-    End,
-    // no record, which ends the reading
-    Bad(Fault),
-    // a record, and the bytes after it
-    First(Item<'a>, &'a [u8]),
-}
-
-// Whether there are records of this kind.
-fn is_known(kind: u8) -> bool
-    ensures { result ≡ known kind }
+// The body at the front of the bytes, and the bytes after it.
+fn split_body<const N: usize>(bytes: &[u8]) -> Result<(&[u8; N], &[u8]), Fault>
+    ensures { MatchResult result
+        (λ p. (p.0.now ≡ take N bytes.now) × (p.1.now ≡ drop N bytes.now) × (N ≤ length bytes.now))
+        (λ f. (f ≡ Cut) × (length bytes.now < N)) }
 {
-    1 <= kind && kind <= 4
+    bytes.split_first_chunk().ok_or(Fault::Cut)
 }
 
-// How many bytes follow a kind byte.
-fn body_length(kind: u8) -> usize
-    ensures { result ≡ body kind }
-{
-    if kind == 2 { 2 } else { 1 }
-}
-
-// The record of a known kind with this body.
-fn item_of<'a>(kind: u8, bytes: &'a [u8]) -> Item<'a>
-    requires known { known kind ≡ true }
-    requires whole { length bytes.now ≡ body kind }
-    ensures same { entry_of result ≡ entry kind bytes.now }
-    ensures bodied { Bodied result }
-{
-    match kind {
-        1 => Item::Choose(bytes),
-        2 => Item::Heard(bytes),
-        3 => Item::Struck(bytes),
-        _ => Item::List(bytes),
+impl Kind {
+    // The record of this kind whose body is at the front of the bytes, and the bytes after it.
+    fn read(self, bytes: &[u8]) -> Result<(Item<'_>, &[u8]), Fault>
+        ensures { part_of result ≡ after_kind (number_of_kind self) bytes.now }
+    {
+        match self {
+            Kind::Choose => split_body(bytes).map(|(body, rest)| (Item::Choose(body), rest)),
+            Kind::Heard => split_body(bytes).map(|(body, rest)| (Item::Heard(body), rest)),
+            Kind::Struck => split_body(bytes).map(|(body, rest)| (Item::Struck(body), rest)),
+            Kind::List => split_body(bytes).map(|(body, rest)| (Item::List(body), rest)),
+        }
     }
 }
 
-// Reads the record at the front.
-pub(crate) fn front_of<'a>(left: &'a [u8]) -> Front<'a>
-    ensures same { front_of result ≡ front left.now }
-    ensures bodied { BodiedFront result }
+// The record at the front of the bytes that are left, if there are any, and the bytes after it.
+pub(crate) fn read_front(left: &[u8]) -> Result<Option<(Item<'_>, &[u8])>, Fault>
+    ensures { front_of result ≡ front left.now }
 {
-    if left.len() == 0 {
-        return Front::End;
-    }
-    let kind = left[0];
-    if !is_known(kind) {
-        return Front::Bad(Fault::Kind);
-    }
-    let end = 1 + body_length(kind);
-    if left.len() < end {
-        return Front::Bad(Fault::Cut);
-    }
-    Front::First(item_of(kind, &left[1..end]), &left[end..])
+    let Some((number, rest)) = left.split_first() else {
+        return Ok(None);
+    };
+    Ok(Some(Kind::try_from(*number)?.read(rest)?))
 }

@@ -2,11 +2,15 @@
 
 #![tactic(auto)]
 
-mod actions;
-mod houses;
+mod choices;
+#[cfg(test)]
+mod example;
 mod items;
 mod lines;
-mod serving;
-mod telling;
-mod turning;
+mod messages;
+mod readers;
+mod reading;
+mod records;
 mod writing;
+
+pub use reading::report;

@@ -1,139 +1,89 @@
 // The lines of a text.
-ghost use Rattle.std.specs.Prelude.{◌≡◌, ◌+◌, ◌*◌, ◌^◌, ◌<◌, ◌≤◌, [], ◌∷◌, ◌++◌, length, take, drop};
-ghost use Rattle.code.specs.Messages.{each};
+ghost use Rattle.std.specs.Prelude.{◌≡◌, ◌*◌, ◌≤◌, ◌++◌, length, take};
 ghost use Rattle.hearings.specs.Writing.{Wrote};
-ghost use Rattle.hearings.specs.Lines.{choice_line, where_out, refusal, list_line, gap, letters_from, message_line, rows};
+ghost use Rattle.hearings.specs.Lines.{choice_line, where_out, refusal, list_line, gap, letters_from, message_line};
+ghost use Rattle.hearings.specs.Values.{message_lines};
 
-use crate::writing::{end_line, put_field};
+use crate::messages::Messages;
+use crate::writing::Text;
 use code::Code;
 use fault::Fault;
 
-// What a code is, for the one that was chosen by this number.
-pub(crate) fn put_choice<C: Code>(out: &mut [u8], at: usize, number: u8, code: &C) -> usize
-    requires made { C.made code.now }
-    requires low { at < 2 ^ 60 }
-    ensures wrote { Wrote out.old at (choice_line number (C.means code.now)) out.new result }
-    ensures bound { result ≤ at + 200 }
-{
-    let code_end = put_field(out, at, b"code ", number as usize);
-    let family_end = put_field(out, code_end, b" family ", code.family_number() as usize);
-    let letters_end = put_field(out, family_end, b" letters ", code.letters());
-    let places_end = put_field(out, letters_end, b" places ", code.places());
-    let top_end = put_field(out, places_end, b" top ", code.top());
-    let least_end = put_field(out, top_end, b" least ", code.least());
-    end_line(out, least_end)
-}
-
-// Where a list is out of reach; nothing for other refusals.
-fn put_where(out: &mut [u8], at: usize, fault: Fault) -> usize
-    requires { at < 2 ^ 60 }
-    ensures wrote { Wrote out.old at (where_out fault) out.new result }
-    ensures bound { result ≤ at + 60 }
-{
-    match fault {
-        Fault::Reach(reach) => {
-            let end = put_field(out, at, b" level ", reach.level as usize);
-            put_field(out, end, b" place ", reach.place as usize)
-        }
-        _ => at,
-    }
-}
-
-// Why the record whose kind byte stands at this offset was refused.
-pub(crate) fn put_refusal(out: &mut [u8], at: usize, offset: usize, fault: Fault) -> usize
-    requires { at < 2 ^ 59 }
-    ensures wrote { Wrote out.old at (refusal offset fault) out.new result }
-    ensures bound { result ≤ at + 200 }
-{
-    let number_end = put_field(out, at, b"refused ", fault.number() as usize);
-    let offset_end = put_field(out, number_end, b" at ", offset);
-    let where_end = put_where(out, offset_end, fault);
-    end_line(out, where_end)
-}
-
 // What parts letter i from those before it.
 fn gap_before(i: usize) -> &'static [u8]
-    ensures same { result.now ≡ gap i }
-    ensures short { length result.now ≤ 1 }
+    ensures { result.now ≡ gap i }
 {
     if i == 0 { b"" } else { b" " }
 }
 
-// A letter and the gap before it.
-fn put_letter(out: &mut [u8], at: usize, i: usize, letter: u8) -> usize
-    requires { at < 2 ^ 61 }
-    ensures wrote { Wrote out.old at (letters_from i (letter ∷ [])) out.new result }
-    ensures bound { result ≤ at + 30 }
-{
-    put_field(out, at, gap_before(i), letter as usize)
-}
-
-fn put_letters(out: &mut [u8], at: usize, letters: &[u8]) -> usize
-    requires low { at < 2 ^ 60 }
-    requires short { length letters.now ≤ 256 }
-    ensures wrote { Wrote out.old at (letters_from 0 letters.now) out.new result }
-    ensures bound { result ≤ at + 30 * length letters.now }
-{
-    let mut end = at;
-    for i in 0..letters.len() {
-        end = put_letter(out, end, i, letters[i]);
+impl Text<'_> {
+    // What a code is, for the one that was chosen by this number.
+    pub(crate) fn push_choice<C: Code>(&mut self, number: u8, code: &C)
+        ensures { Wrote self.old (choice_line number (C.means code.now)) self.new }
+    {
+        self.push_field(b"code ", number as usize);
+        self.push_field(b" family ", C::FAMILY as usize);
+        self.push_field(b" letters ", code.letters());
+        self.push_field(b" places ", code.places());
+        self.push_field(b" top ", code.top());
+        self.push_field(b" least ", code.least());
+        self.end_line();
     }
-    end
-}
 
-// The letters of a message, in a line.
-fn put_message(out: &mut [u8], at: usize, letters: &[u8]) -> usize
-    requires low { at < 2 ^ 60 }
-    requires short { length letters.now ≤ 256 }
-    ensures wrote { Wrote out.old at (message_line letters.now) out.new result }
-    ensures bound { result ≤ at + 8000 }
-{
-    let end = put_letters(out, at, letters);
-    end_line(out, end)
-}
-
-// Message j of a buffer of messages of k letters.
-fn message_at(bytes: &[u8], k: usize, j: usize) -> &[u8]
-    requires { j * k + k ≤ length bytes.now }
-    ensures { result.now ≡ take k (drop (j * k) bytes.now) }
-{
-    &bytes[j * k..j * k + k]
-}
-
-// The first messages of a buffer, each of k letters.
-fn put_messages(out: &mut [u8], at: usize, k: usize, count: usize, bytes: &[u8]) -> usize
-    requires low { at < 2 ^ 59 }
-    requires small { length bytes.now ≤ 256 }
-    requires few { count ≤ 256 }
-    requires room { count * k ≤ length bytes.now }
-    ensures wrote { Wrote out.old at (each message_line (rows k count bytes.now)) out.new result }
-    ensures bound { result ≤ at + 8000 * count }
-{
-    let mut end = at;
-    for j in 0..count {
-        end = put_message(out, end, message_at(bytes, k, j));
+    // Where a list is out of reach; nothing for other refusals.
+    #[tactic(auto, unfolding(crate::specs::Writing::puts))]
+    fn push_where(&mut self, fault: Fault)
+        ensures { Wrote self.old (where_out fault) self.new }
+    {
+        if let Fault::Reach(reach) = fault {
+            self.push_field(b" level ", reach.level as usize);
+            self.push_field(b" place ", reach.place as usize);
+        }
     }
-    end
-}
 
-// A list that was answered: its agreement, its count, and its messages.
-pub(crate) fn put_list(
-    out: &mut [u8],
-    at: usize,
-    k: usize,
-    t: usize,
-    count: usize,
-    bytes: &[u8],
-) -> usize
-    requires low { at < 2 ^ 58 }
-    requires small { length bytes.now ≤ 256 }
-    requires few { count ≤ 256 }
-    requires room { count * k ≤ length bytes.now }
-    ensures wrote { Wrote out.old at (list_line t count ++ each message_line (rows k count bytes.now)) out.new result }
-    ensures bound { result ≤ at + 3000000 }
-{
-    let t_end = put_field(out, at, b"list ", t);
-    let count_end = put_field(out, t_end, b" ", count);
-    let line_end = end_line(out, count_end);
-    put_messages(out, line_end, k, count, bytes)
+    // Why the record whose kind byte stands at this offset was refused.
+    pub(crate) fn push_refusal(&mut self, offset: usize, fault: Fault)
+        ensures { Wrote self.old (refusal offset fault) self.new }
+    {
+        self.push_field(b"refused ", fault.number() as usize);
+        self.push_field(b" at ", offset);
+        self.push_where(fault);
+        self.end_line();
+    }
+
+    fn push_letters(&mut self, letters: &[u8])
+        ensures { Wrote self.old (letters_from 0 letters.now) self.new }
+    {
+        for (i, letter) in letters.iter().enumerate() {
+            self.push_field(gap_before(i), *letter as usize);
+        }
+    }
+
+    // The letters of a message, in a line.
+    #[tactic(auto, using(crate::proofs::Wrote::puts_append))]
+    fn push_message(&mut self, letters: &[u8])
+        ensures { Wrote self.old (message_line letters.now) self.new }
+    {
+        self.push_letters(letters);
+        self.end_line();
+    }
+
+    fn push_messages(&mut self, messages: Messages<'_>)
+        ensures { Wrote self.old (message_lines messages.entry) self.new }
+    {
+        let k = messages.k;
+        for message in messages.bytes[..messages.count * k].chunks_exact(k) {
+            self.push_message(message);
+        }
+    }
+
+    // A list that was answered: its agreement, its count, and its messages.
+    pub(crate) fn push_list(&mut self, t: usize, messages: Messages<'_>)
+        ensures { Wrote self.old (list_line t messages.entry.count ++ message_lines messages.entry) self.new }
+    {
+        self.push_field(b"list ", t);
+        self.push_field(b" ", messages.count);
+        self.end_line();
+        self.push_messages(messages);
+    }
 }

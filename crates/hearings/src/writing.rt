@@ -1,57 +1,75 @@
-// Text in a caller's buffer, byte by byte. What lies past the end is counted and not written.
-ghost use Rattle.std.specs.Prelude.{◌≡◌, ◌+◌, ◌^◌, ◌<◌, ◌≤◌, [], ◌∷◌, length, decimal};
-ghost use Rattle.hearings.specs.Writing.{Wrote};
+// Text in a caller's buffer, byte by byte.
+ghost use Rattle.std.specs.Prelude.{◌≡◌, [], ◌∷◌, length, decimal};
+ghost use Rattle.hearings.specs.Writing.{page, blank, Wrote};
 ghost use Rattle.hearings.specs.Lines.{field, newline};
 
-pub(crate) fn put(out: &mut [u8], at: usize, byte: u8) -> usize
-    requires { at < 2 ^ 63 }
-    ensures { Wrote out.old at (byte ∷ []) out.new result }
-{
-    if at < out.len() {
-        out[at] = byte;
+use itoa::Buffer;
+
+// A buffer, and where the text in it ends. What lies past the buffer is counted and not written.
+#[derive(Drop)]
+pub(crate) struct Text<'a> {
+    bytes: &'a mut [u8],
+    end: usize,
+}
+
+impl<'a> Text<'a> {
+    // No text in a buffer.
+    pub(crate) fn new(bytes: &'a mut [u8]) -> Text<'a>
+        ensures empty { page result ≡ blank bytes.old }
+        ensures same { result.bytes.ghost_name ≡ bytes.entry.ghost_name }
+    {
+        Text { bytes, end: 0 }
     }
-    at + 1
 }
 
-pub(crate) fn put_bytes(out: &mut [u8], at: usize, bytes: &[u8]) -> usize
-    requires { at + length bytes.now < 2 ^ 63 }
-    ensures { Wrote out.old at bytes.now out.new result }
-{
-    let mut end = at;
-    for byte in bytes {
-        end = put(out, end, *byte);
+impl Text<'_> {
+    // Where the text ends, the lost bytes counted.
+    pub(crate) fn len(&self) -> usize
+        ensures { result ≡ self.now.end }
+    {
+        self.end
     }
-    end
-}
 
-// A number in base ten.
-pub(crate) fn put_number(out: &mut [u8], at: usize, n: usize) -> usize
-    requires { at < 2 ^ 62 }
-    ensures wrote { Wrote out.old at (decimal n) out.new result }
-    ensures bound { result ≤ at + 20 }
-{
-    if n < 10 {
-        return put(out, at, 48 + n as u8);
+    #[tactic(auto, unfolding(crate::specs::Writing::puts))]
+    pub(crate) fn push(&mut self, byte: u8)
+        ensures { Wrote self.old (byte ∷ []) self.new }
+    {
+        if self.end < self.bytes.len() {
+            self.bytes[self.end] = byte;
+        }
+        self.end = self.end.saturating_add(1);
     }
-    let front = put_number(out, at, n / 10);
-    put(out, front, 48 + (n % 10) as u8)
-}
 
-// Words, and the number after them.
-pub(crate) fn put_field(out: &mut [u8], at: usize, words: &[u8], n: usize) -> usize
-    requires low { at < 2 ^ 61 }
-    requires short { length words.now ≤ 10 }
-    ensures wrote { Wrote out.old at (field words.now n) out.new result }
-    ensures bound { result ≤ at + 30 }
-{
-    let end = put_bytes(out, at, words);
-    put_number(out, end, n)
-}
+    #[tactic(auto, unfolding(crate::specs::Writing::puts))]
+    pub(crate) fn push_bytes(&mut self, bytes: &[u8])
+        ensures { Wrote self.old bytes.now self.new }
+    {
+        for byte in bytes {
+            self.push(*byte);
+        }
+    }
 
-// The end of a line.
-pub(crate) fn end_line(out: &mut [u8], at: usize) -> usize
-    requires { at < 2 ^ 63 }
-    ensures { Wrote out.old at newline out.new result }
-{
-    put(out, at, b'\n')
+    // A number in base ten.
+    #[tactic(auto, using(crate::proofs::Wrote::wrote_as))]
+    pub(crate) fn push_number(&mut self, n: usize)
+        ensures { Wrote self.old (decimal n) self.new }
+    {
+        self.push_bytes(Buffer::new().format(n).as_bytes());
+    }
+
+    // Words, and the number after them.
+    #[tactic(auto, using(crate::proofs::Wrote::puts_append))]
+    pub(crate) fn push_field(&mut self, words: &[u8], n: usize)
+        ensures { Wrote self.old (field words.now n) self.new }
+    {
+        self.push_bytes(words);
+        self.push_number(n);
+    }
+
+    // The end of a line.
+    pub(crate) fn end_line(&mut self)
+        ensures { Wrote self.old newline self.new }
+    {
+        self.push(b'\n');
+    }
 }

@@ -1,12 +1,12 @@
 -- Zeros after the rows of a generator table change nothing of what the code means.
-use Rattle.std.proofs.Common.{◌≡◌, ℕ, zero, suc, ◌+◌, ◌-◌, ◌*◌, not, List, [], ◌∷◌, ◌++◌, map, length, get_or, replicate, filter, refl, ap, ◌∙◌}
+use Rattle.std.proofs.Common.{◌≡◌, ℕ, zero, suc, ◌+◌, ◌-◌, ◌*◌, not, List, [], ◌∷◌, ◌++◌, map, length, get_or, replicate, filter, refl, ap}
 use mathlib.Core.Path.{fun_ext}
 use Rattle.algebra.specs.Field.{Meaning as Field}
 use Rattle.code.specs.Answers.{padded}
 use Rattle.code.specs.Meaning.{Meaning, within}
 use Rattle.code.specs.Messages.{span, messages}
 use Rattle.code.specs.Score.{hits}
-use Rattle.generator.specs.Generator.{column, sum_rows, letter, gen_word, gen_distance, gen_meaning, fewest, nonzeros, blank}
+use Rattle.generator.specs.Generator.{sum_rows, gen_word, gen_distance, gen_meaning, fewest, nonzeros, blank}
 
 zeros : (n i : ℕ) → ◌≡◌ {A = ℕ} (get_or (replicate n 0) i 0) 0
 zeros zero i = refl
@@ -18,20 +18,9 @@ past [] n i = zeros n i
 past (x ∷ xs) n zero = refl
 past (x ∷ xs) n (suc i) = past xs n i
 
-same_sum : (F : Field) (f g : ℕ → ℕ) → ((i : ℕ) → f i ≡ g i) → (i : ℕ) (x : List ℕ) → sum_rows F f i x ≡ sum_rows F g i x
-same_sum F f g h i [] = refl
-same_sum F f g h i (a ∷ x) = ap (λ y. F.sum (F.product a y) (sum_rows F f (suc i) x)) (h i) ∙ ap (F.sum (F.product a (g i))) (same_sum F f g h (suc i) x)
-
-same_map : (f g : ℕ → ℕ) → ((i : ℕ) → f i ≡ g i) → (xs : List ℕ) → map f xs ≡ map g xs
-same_map f g h [] = refl
-same_map f g h (x ∷ xs) = ap (λ y. y ∷ map f xs) (h x) ∙ ap (λ ys. g x ∷ ys) (same_map f g h xs)
-
 same_word : (F : Field) (g : List ℕ) (size n : ℕ) (x : List ℕ) → gen_word F (padded size g) n x ≡ gen_word F g n x
 unfolding gen_word
-same_word F g size n x =
-    same_map (letter F (padded size g) n x) (letter F g n x)
-    (λ j. same_sum F (column (padded size g) n j) (column g n j) (λ i. past g (size - length g) (i * n + j)) 0 x)
-    (span 0 n)
+same_word F g size n x = ap (λ f. map f (span 0 n)) (fun_ext (λ j. ap (λ f. sum_rows F f 0 x) (fun_ext (λ i. past g (size - length g) (i * n + j)))))
 
 -- the meaning of a generator code depends on its table by the words alone
 abbrev by_words : Field → (n k : ℕ) → (List ℕ → List ℕ) → Meaning

@@ -1,5 +1,5 @@
 -- What the codes of the house mean.
-use Rattle.std.specs.Prelude.{ℕ, cond, List, [], ◌∷◌, Some, None, Option, ◌==◌}
+use Rattle.std.specs.Prelude.{ℕ, if◌then◌else◌, List, [], ◌∷◌, Some, None, Option, ◌==◌}
 use Rattle.algebra.specs.Prime.{prime}
 use Rattle.algebra.specs.Binary.{binary}
 use Rattle.counting.specs.Counting.{limits}
@@ -39,4 +39,4 @@ brine = concatenated brine_outer brine_inner 4
 
 -- the house code with a number: 1 slab, 2 header, 3 brine
 abbrev pub house : ℕ → Option Meaning
-house c = cond (c == 1) (Some slab) (cond (c == 2) (Some header) (cond (c == 3) (Some brine) None))
+house c = if c == 1 then Some slab else (if c == 2 then Some header else (if c == 3 then Some brine else None))

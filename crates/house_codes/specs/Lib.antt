@@ -1,2 +1,1 @@
 pub mod House
-pub mod Values

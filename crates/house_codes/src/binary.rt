@@ -4,8 +4,7 @@ ghost use Rattle.algebra.specs.Binary.{binary};
 ghost use Rattle.algebra.specs.Listed.{is_exponent};
 ghost use Rattle.counting.specs.Counting.{limits};
 ghost use Rattle.reed_solomon.specs.ReedSolomon.{rs_meaning, shaped};
-ghost use Rattle.reed_solomon.specs.Values.{meaning_of, Made};
-ghost use Rattle.house_codes.specs.Values.{binary_of};
+ghost use Rattle.reed_solomon.specs.Values.{meaning_of};
 
 use field::BinaryField;
 use reed_solomon::ReedSolomon;
@@ -14,8 +13,7 @@ use reed_solomon::ReedSolomon;
 pub(crate) fn binary_code(m: u8, n: usize, k: usize) -> ReedSolomon<BinaryField>
     requires listed { T (is_exponent m) }
     requires shaped { shaped (2 ^ m) n k ≡ true }
-    ensures means { meaning_of binary_of result ≡ rs_meaning limits (binary m) n k }
-    ensures made { Made binary_of result }
+    ensures means { meaning_of result ≡ rs_meaning limits (binary m) n k }
 {
     let Ok(field) = BinaryField::new(m) else {
         unreachable()

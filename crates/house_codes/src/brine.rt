@@ -1,7 +1,7 @@
 // The records of the brine's probes: a Reed-Solomon code above another.
 ghost use Rattle.std.specs.Prelude.{◌≡◌};
+ghost use Rattle.concatenated.specs.Values.{meaning_of};
 ghost use Rattle.house_codes.specs.House.{brine};
-ghost use Rattle.house_codes.specs.Values.{brine_of, MadeBrine};
 
 use crate::binary::binary_code;
 use concatenated::Concatenated;
@@ -12,8 +12,7 @@ pub type BrineCode = Concatenated<ReedSolomon<BinaryField>, ReedSolomon<BinaryFi
 
 // n 24, k 4 over the field of 256 elements, above n 8, k 2 over the field of 16 elements at agreement 4.
 pub fn brine_code() -> BrineCode
-    ensures means { brine_of result ≡ brine }
-    ensures made { MadeBrine result }
+    ensures means { meaning_of result ≡ brine }
 {
     let outer = binary_code(8, 24, 4);
     let inner = binary_code(4, 8, 2);

@@ -1,7 +1,7 @@
 // The header of a record: a Reed-Solomon code alone.
 ghost use Rattle.std.specs.Prelude.{◌≡◌};
+ghost use Rattle.reed_solomon.specs.Values.{meaning_of};
 ghost use Rattle.house_codes.specs.House.{header};
-ghost use Rattle.house_codes.specs.Values.{header_of, MadeHeader};
 
 use field::PrimeField;
 use reed_solomon::ReedSolomon;
@@ -10,8 +10,7 @@ pub type HeaderCode = ReedSolomon<PrimeField>;
 
 // n 10, k 3 over the whole numbers modulo 11.
 pub fn header_code() -> HeaderCode
-    ensures means { header_of result ≡ header }
-    ensures made { MadeHeader result }
+    ensures means { meaning_of result ≡ header }
 {
     let Ok(eleven) = PrimeField::new(11) else {
         unreachable()

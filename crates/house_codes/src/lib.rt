@@ -9,4 +9,4 @@ mod slab;
 
 pub use brine::{BrineCode, brine_code};
 pub use header::{HeaderCode, header_code};
-pub use slab::{SlabCode, slab_code};
+pub use slab::{SlabCode, slab_code, slab_inner_code};

@@ -1,8 +1,8 @@
 // The records of the slab's probes: a Reed-Solomon code above a generator code.
 ghost use Rattle.std.specs.Prelude.{◌≡◌};
+ghost use Rattle.concatenated.specs.Values.{meaning_of};
 ghost use Rattle.house_codes.specs.House.{slab, slab_inner};
-ghost use Rattle.house_codes.specs.Values.{slab_of, prime_of, MadeSlab};
-ghost use Rattle.generator.specs.Values.{meaning_of, Made};
+ghost use Rattle.generator.specs.Values.{meaning_of as generator_meaning};
 
 use crate::binary::binary_code;
 use concatenated::Concatenated;
@@ -21,9 +21,8 @@ const ROWS: [u8; 32] = [
 ];
 
 // n 8, k 4 over the field of 2 elements.
-fn inner_code() -> Generator<PrimeField>
-    ensures means { meaning_of prime_of result ≡ slab_inner }
-    ensures made { Made prime_of result }
+pub fn slab_inner_code() -> Generator<PrimeField>
+    ensures means { generator_meaning result ≡ slab_inner }
 {
     let Ok(two) = PrimeField::new(2) else {
         unreachable()
@@ -36,11 +35,10 @@ fn inner_code() -> Generator<PrimeField>
 
 // n 15, k 4 over the field of 16 elements, above the inner code at agreement 6.
 pub fn slab_code() -> SlabCode
-    ensures means { slab_of result ≡ slab }
-    ensures made { MadeSlab result }
+    ensures means { meaning_of result ≡ slab }
 {
     let outer = binary_code(4, 15, 4);
-    let inner = inner_code();
+    let inner = slab_inner_code();
     let Ok(code) = Concatenated::new(outer, inner, 6) else {
         unreachable()
     };

@@ -1,5 +1,5 @@
 -- The curve divided by a power of x, and its value at x = 0.
-use Rattle.std.proofs.Common.{◌≡◌, ℕ, zero, suc, ◌+◌, ◌-◌, ◌*◌, ◌<◌, ◌≤◌, Bool, true, false, cond, ltb, List, [], ◌∷◌, length, get_or, sym, refl, ap, ◌∙◌, ap₂, ⊎_elim, arith, ltb-false, ltb-true}
+use Rattle.std.proofs.Common.{◌≡◌, ℕ, zero, suc, ◌+◌, ◌-◌, ◌*◌, ◌<◌, ◌≤◌, Bool, true, false, cond, ltb, List, [], ◌∷◌, length, get_or, sym, refl, ap, ◌∙◌, subst, subst₂, ap₂, ⊎_elim, arith, ltb-false, ltb-true}
 use Rattle.std.proofs.lemmas.Bool.{cases_lt}
 use Rattle.algebra.specs.Field.{Meaning, Laws, read, codes}
 use Rattle.algebra.specs.Polynomial.{value}
@@ -12,59 +12,57 @@ use Rattle.algebra.proofs.Rows.{row_in, row_zero}
 use Rattle.algebra.proofs.Values.{horner, by_horner}
 use Rattle.algebra.proofs.CodeRecovery.{code_lies_same, code_shifted_lies}
 use Rattle.interpolation.specs.Size.{columns}
-use Rattle.interpolation.specs.declared.steps.Region.{Region}
-use Rattle.interpolation.specs.Steps.{cell, wide_at, Light, Lowered, FootOf}
+use Rattle.interpolation.specs.declared.region.Region.{Region}
+use Rattle.interpolation.specs.Region.{cell}
+use Rattle.interpolation.specs.Steps.{wide_at, Light, Divided, Lowered, FootOf}
 use Rattle.interpolation.proofs.Codes.{read_zero, sum_first, sum_none}
 use Rattle.interpolation.proofs.Narrowing.{code_narrow}
 
--- the region with fewer powers of x
-abbrev pub narrower : Region → ℕ → Region
-narrower r width = record { width = width; weight = r.weight; height = r.height }
-
-module _ (F : Meaning) (r : Region) (width : ℕ) (old new : List ℕ) (low : Lowered r width old new) (wide : r.width ≤ columns)
+module _ (F : Meaning) (r : Region) (width m : ℕ) (old new : List ℕ) (divided : Divided r m old new) (most : width ≤ r.width) (enough : r.width ≤ m + width)
     (light : DegreeBelow (codes F) r.width r.height r.weight r.width (table F columns old)) where
-  abbrev m : ℕ
-  m = low.power
-
   -- a coefficient of the curve divided by x^m, outside the row
-  shifted_zero : (i j : ℕ) → j < r.height → r.width ≤ low.power + i + r.weight * j → shifted (codes F) r.width low.power (table F columns old) i j ≡ 0
-  shifted_zero i j hj o = row_zero (codes F) r.width (table F columns old) j (low.power + i) (λ l. light (low.power + i) j l hj o)
+  shifted_zero : (i j : ℕ) → j < r.height → r.width ≤ m + i + r.weight * j → shifted (codes F) r.width m (table F columns old) i j ≡ 0
+  shifted_zero i j hj o = row_zero (codes F) r.width (table F columns old) j (m + i) (λ l. light (m + i) j l hj o)
 
-  lowered_same : Same r.width r.height (table F columns new) (shifted (codes F) r.width low.power (table F columns old))
+  lowered_same : Same r.width r.height (table F columns new) (shifted (codes F) r.width m (table F columns old))
   lowered_same i j hi hj = ⊎_elim
-      (λ h. ap (read F.size) (low.divided.lowered i j h hj) ∙ by (ltb (low.power + i) (wide_at r j)) refl)
-      (λ h. ap (read F.size) (low.divided.beside i j (omega arith) h)
+      (λ h. ap (read F.size) (divided.lowered i j h hj) ∙ by (ltb (m + i) (wide_at r j)) refl)
+      (λ h. ap (read F.size) (divided.beside i j (let w = r.wide in omega arith) h)
       ∙ light i j hi hj (let z : r.width - r.weight * j ≤ i = h in omega arith)
       ∙ sym (shifted_zero i j hj (let z : r.width - r.weight * j ≤ i = h in omega arith)))
       (cases_lt i (wide_at r j))
     where
-      by : (b : Bool) → ltb (low.power + i) (wide_at r j) ≡ b → read F.size (cond b (cell old (low.power + i) j) 0) ≡ row (codes F) r.width (table F columns old) j (low.power + i)
+      by : (b : Bool) → ltb (m + i) (wide_at r j) ≡ b → read F.size (cond b (cell old (m + i) j) 0) ≡ row (codes F) r.width (table F columns old) j (m + i)
       by true e =
-          let z : low.power + i < r.width - r.weight * j = ltb-true (low.power + i) (wide_at r j) e in
-          sym (row_in (codes F) r.width (table F columns old) j (low.power + i) (omega arith))
+          let z : m + i < r.width - r.weight * j = ltb-true (m + i) (wide_at r j) e in
+          sym (row_in (codes F) r.width (table F columns old) j (m + i) (omega arith))
       by false e =
-          let z : r.width - r.weight * j ≤ low.power + i = ltb-false (low.power + i) (wide_at r j) e in
+          let z : r.width - r.weight * j ≤ m + i = ltb-false (m + i) (wide_at r j) e in
           read_zero F.size 0 refl ∙ sym (shifted_zero i j hj (omega arith))
 
   lies : Laws F → (g : List ℕ) → Lies (codes F) r.width r.height (table F columns old) g → Lies (codes F) width r.height (table F columns new) g
   lies L g z =
-      code_narrow F L width r.height r.width r.height (table F columns new) low.most (omega arith)
-      (λ i j hi hj h. lowered_same i j hi hj ∙ shifted_zero i j hj (let e = low.enough in omega arith))
+      code_narrow F L width r.height r.width r.height (table F columns new) most (omega arith)
+      (λ i j hi hj h. lowered_same i j hi hj ∙ shifted_zero i j hj (omega arith))
       (λ i j hi hj h. absurd (omega arith)) g
-      (code_lies_same F L r.width r.height (shifted (codes F) r.width low.power (table F columns old)) (table F columns new) lowered_same g
-      (code_shifted_lies F L r.width r.height low.power (table F columns old) (λ i h j l. read_zero F.size _ (low.divided.clear i h j l)) g z))
+      (code_lies_same F L r.width r.height (shifted (codes F) r.width m (table F columns old)) (table F columns new) lowered_same g
+      (code_shifted_lies F L r.width r.height m (table F columns old) (λ i h j l. read_zero F.size _ (divided.clear i h j l)) g z))
 
   degree : DegreeBelow (codes F) width r.height r.weight width (table F columns new)
-  degree i j hi hj o = let a = low.most in let e = low.enough in lowered_same i j (omega arith) hj ∙ shifted_zero i j hj (omega arith)
+  degree i j hi hj o = lowered_same i j (omega arith) hj ∙ shifted_zero i j hj (omega arith)
 
-pub lowered_lies : (F : Meaning) (r : Region) (width : ℕ) (old new : List ℕ) → Lowered r width old new → r.width ≤ columns → Light F r old → Laws F
-    → (g : List ℕ) → Lies (codes F) r.width r.height (table F columns old) g → Lies (codes F) width r.height (table F columns new) g
-unfolding Light
-lowered_lies F r width old new low wide light L = lies F r width old new low wide light L
+module _ (F : Meaning) (r low : Region) (old new : List ℕ) (lw : Lowered r low old new) (light : Light F r old) where
+  pub lowered_lies : Laws F → (g : List ℕ) → Lies (codes F) r.width r.height (table F columns old) g → Lies (codes F) low.width low.height (table F columns new) g
+  unfolding Light
+  lowered_lies L g z =
+      subst (λ h. Lies (codes F) low.width h (table F columns new) g) (sym lw.narrower.height)
+      (lies F r low.width lw.power old new lw.divided lw.narrower.most lw.narrower.enough light L g z)
 
-pub lowered_light : (F : Meaning) (r : Region) (width : ℕ) (old new : List ℕ) → Lowered r width old new → r.width ≤ columns → Light F r old → Light F (narrower r width) new
-unfolding Light
-lowered_light F r width old new low wide light = degree F r width old new low wide light
+  pub lowered_light : Light F low new
+  unfolding Light
+  lowered_light =
+      subst₂ (λ h v. DegreeBelow (codes F) low.width h v low.width (table F columns new)) (sym lw.narrower.height) (sym lw.narrower.weight)
+      (degree F r low.width lw.power old new lw.divided lw.narrower.most lw.narrower.enough light)
 
 -- The value at x = 0, from the list of the coefficients there.
 module _ (F : Meaning) (L : Laws F) (y : ℕ) where

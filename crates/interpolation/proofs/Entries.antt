@@ -1,5 +1,5 @@
 -- Parts of a curve's cells, and what a write to one row leaves.
-use Rattle.std.proofs.Common.{◌≡◌, ℕ, ◌+◌, ◌-◌, ◌*◌, ◌<◌, ◌≤◌, ◌≢◌, List, length, take, drop, sym, refl, ap, ◌∙◌, subst, add_comm, arith, length-drop, length-take}
+use Rattle.std.proofs.Common.{◌≡◌, ℕ, ◌+◌, ◌-◌, ◌*◌, ◌<◌, ◌≤◌, ◌≢◌, List, length, take, drop, sym, ap, ◌∙◌, subst, add_comm, arith, length-drop, length-take}
 use native.Mathlib.Decide.{ℕ_discrete, dec_lt}
 use borrow.Rule.Slice.PartMut.{put_mid}
 use Rattle.std.proofs.lemmas.List.{get_or_append_left, get_or-append_right, get_or-take, get_or-drop}
@@ -36,9 +36,6 @@ module _ (a k : ℕ) (xs ys : List ℕ) (fits : a + k ≤ length xs) (full : len
       ∙ get_or-drop k (drop a xs) (t - a - k) 0 ∙ get_or-drop a xs (k + (t - a - k)) 0 ∙ ap (at xs) e
 
 module _ (v D : ℕ) (new : ℕ → ℕ → ℕ) (l : List ℕ) where
-  pub changed_none : Changed v D 0 new l l
-  changed_none = record { inside = λ i j h _. absurd (omega arith); outside = λ i j _ _ _. refl }
-
   -- A row that is still to be changed.
   pub still : (j : ℕ) (l' : List ℕ) → Changed v D j new l l' → j < rows → (i : ℕ) → i < columns → cell l' i j ≡ cell l i j
   still j l' c h i lt = c.outside i j lt h (λ o. absurd (omega arith))
@@ -68,13 +65,3 @@ module _ (v D : ℕ) (new : ℕ → ℕ → ℕ) (l : List ℕ) where
         | yes b ↦ put_before (columns * j) n l' p (omega arith) full (i + columns * k) (omega arith)
         | no b ↦ put_past (columns * j) n l' p (omega arith) full (i + columns * k) (omega arith)
       ]
-
-  -- The rows past the last that has a cell to change.
-  pub changed_all : (n : ℕ) (l' : List ℕ) → ((j : ℕ) → n ≤ j → j < rows → D < v * j) → Changed v D n new l l' → Changed v D rows new l l'
-  changed_all n l' rest c = record {
-    inside = λ i j h lt. elim (dec_lt j n) [
-      | yes b ↦ c.inside i j b lt
-      | no b ↦ absurd (let z = rest j (omega arith) h in omega arith)
-    ];
-    outside = λ i j lt h o. c.outside i j lt h (λ _. o h);
-  }

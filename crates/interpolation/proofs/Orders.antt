@@ -1,11 +1,13 @@
 -- The polynomials that begin with given coefficients, in their order.
-use Rattle.std.proofs.Common.{◌≡◌, ℕ, zero, suc, ◌+◌, Bool, true, false, cond, List, [], ◌∷◌, ◌++◌, map, filter, sym, refl, ap, ◌∙◌, add-one, arith}
+use Rattle.std.proofs.Common.{◌≡◌, ℕ, zero, suc, ◌+◌, ◌-◌, ◌≤◌, Bool, true, false, cond, List, [], ◌∷◌, ◌++◌, map, length, filter, sym, refl, ap, ◌∙◌, subst, add-one, arith}
 use Rattle.std.proofs.lemmas.List.Elements.{filter-append}
-use Rattle.std.proofs.lemmas.List.{append_assoc, append-nil, map-append, map-id}
+use Rattle.std.proofs.lemmas.List.{append_assoc, append-nil, length-append, map-append, map-id}
 use Rattle.std.proofs.lemmas.Bool.{and_parts}
 use Rattle.algebra.specs.Field.{Meaning}
 use Rattle.code.specs.Messages.{every, is_row, span, each, messages}
 use Rattle.code.proofs.Rows.{messages_rows}
+use Rattle.interpolation.specs.declared.pairs.Pair.{Pair}
+use Rattle.interpolation.specs.Pairs.{points, values}
 use Rattle.interpolation.specs.Recovered.{passes}
 use Rattle.interpolation.specs.Walk.{chosen, extended}
 
@@ -62,15 +64,21 @@ kept_out f h n q (m ∷ ms) e off =
     by rest row true t = absurd (off m row t)
     by rest row false t = ap (λ b. cond b (h m ∷ filter f (map h ms)) (filter f (map h ms))) t ∙ rest
 
-module _ (F : Meaning) (t : ℕ) (xs ys : List ℕ) where
-  pub one_kept : (m : List ℕ) → passes F t xs ys m ≡ true → chosen F t xs ys (m ∷ []) ≡ m ∷ []
-  one_kept m e = ap (λ b. cond b (m ∷ []) []) e
+module _ (F : Meaning) (t : ℕ) (ps : List Pair) where
+  pub chosen_more : (p : List ℕ) (n r : ℕ) → chosen F t ps (upto F.size p n (r + 1)) ≡ chosen F t ps (upto F.size p n r) ++ chosen F t ps (extended F.size (p ++ r ∷ []) n)
+  chosen_more p n r = ap (chosen F t ps) (upto_more F.size p n r) ∙ filter-append (λ f. passes F t (points ps) (values ps) f) (upto F.size p n r) (extended F.size (p ++ r ∷ []) n)
 
-  pub one_lost : (m : List ℕ) → passes F t xs ys m ≡ false → chosen F t xs ys (m ∷ []) ≡ []
-  one_lost m e = ap (λ b. cond b (m ∷ []) []) e
+  pub chosen_none : (p : List ℕ) (n : ℕ) → ((g : List ℕ) → is_row n F.size g ≡ true → passes F t (points ps) (values ps) (p ++ g) ≡ true → ⊥) → chosen F t ps (extended F.size p n) ≡ []
+  chosen_none p n off = kept_out (λ f. passes F t (points ps) (values ps) f) (λ g. p ++ g) n F.size (messages F.size n) (messages_rows F.size n) off
 
-  pub chosen_more : (p : List ℕ) (n r : ℕ) → chosen F t xs ys (upto F.size p n (r + 1)) ≡ chosen F t xs ys (upto F.size p n r) ++ chosen F t xs ys (extended F.size (p ++ r ∷ []) n)
-  chosen_more p n r = ap (chosen F t xs ys) (upto_more F.size p n r) ∙ filter-append (λ f. passes F t xs ys f) (upto F.size p n r) (extended F.size (p ++ r ∷ []) n)
-
-  pub chosen_none : (p : List ℕ) (n : ℕ) → ((g : List ℕ) → is_row n F.size g ≡ true → passes F t xs ys (p ++ g) ≡ true → ⊥) → chosen F t xs ys (extended F.size p n) ≡ []
-  chosen_none p n off = kept_out (λ f. passes F t xs ys f) (λ g. p ++ g) n F.size (messages F.size n) (messages_rows F.size n) off
+  -- more coefficients give no fewer
+  pub chosen_fewer : (p : List ℕ) (n a b : ℕ) → a ≤ b → length (chosen F t ps (upto F.size p n a)) ≤ length (chosen F t ps (upto F.size p n b))
+  chosen_fewer p n a b h = by (b - a) b (let q : a + (b - a) ≡ b = omega arith in q)
+    where
+      by : (d b : ℕ) → a + d ≡ b → length (chosen F t ps (upto F.size p n a)) ≤ length (chosen F t ps (upto F.size p n b))
+      by zero b e = let q : a ≡ b = omega arith in subst (λ z. length (chosen F t ps (upto F.size p n a)) ≤ length (chosen F t ps (upto F.size p n z))) q (omega arith)
+      by (suc d) b e =
+          let q : a + d + 1 ≡ b = omega arith in
+          let before = by d (a + d) refl in
+          let more = ap length (chosen_more p n (a + d)) ∙ length-append (chosen F t ps (upto F.size p n (a + d))) (chosen F t ps (extended F.size (p ++ (a + d) ∷ []) n)) in
+          subst (λ z. length (chosen F t ps (upto F.size p n a)) ≤ length (chosen F t ps (upto F.size p n z))) q (omega arith)

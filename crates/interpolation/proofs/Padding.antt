@@ -43,7 +43,7 @@ module _ (F : Meaning) (L : Laws F) where
 
   module _ (v D : ℕ) (fits : D < columns) (l : List ℕ) (low : DegreeBelow (codes F) columns rows v (suc D) (table F columns l)) where
     -- A row under the weights of x: the cells past the weighted degree are zero.
-    pub row_is : (a u : ℕ) (wx : List ℕ) → Weighed F a u (D + 1) wx → (j : ℕ) → j < rows → row_value F v D wx l j ≡ dot (codes F) columns (weight (codes F) a u) (λ i. table F columns l i j)
+    row_is : (a u : ℕ) (wx : List ℕ) → Weighed F a u (D + 1) wx → (j : ℕ) → j < rows → row_value F v D wx l j ≡ dot (codes F) columns (weight (codes F) a u) (λ i. table F columns l i j)
     unfolding row_value dot
     row_is a u wx h j lt =
         sum_ext (codes F) (width v D j) _ (λ i. F.product (weight (codes F) a u i) (table F columns l i j))

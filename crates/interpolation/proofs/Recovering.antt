@@ -1,9 +1,10 @@
 -- What a fitted curve gives: the pairs taken, the polynomials through many of them, and how few they are.
 use Rattle.std.proofs.Common.{◌≡◌, ℕ, zero, suc, ◌+◌, ◌-◌, ◌*◌, ◌<◌, ◌≤◌, true, false, ◌&&◌, ltb, List, [], ◌∷◌, ◌++◌, length, get_or, sym, refl, ap, ◌∙◌, subst, subst₂, ⊎_elim, mul-le-mul_right, suc-mul, arith}
-use Rattle.std.proofs.lemmas.List.{length_push, get_or_append_left}
+use Rattle.std.proofs.Props.{props}
+use Rattle.std.proofs.lemmas.List.{length_push, length-map, get_or_append_left}
 use Rattle.std.proofs.lemmas.Bool.{and_from, and_parts, ltb-true, eq-eqb, cases_lt, true≢false, or_left, or_right}
 use Rattle.algebra.specs.Field.{Meaning, Laws, codes}
-use Rattle.algebra.specs.Curve.{DegreeBelow, Lies}
+use Rattle.algebra.specs.Curve.{DegreeBelow, Lies, ZeroAt}
 use Rattle.algebra.specs.Interpolation.{Fitted}
 use Rattle.algebra.specs.CodeRecovery.{Pairs, table, at, score}
 use Rattle.algebra.proofs.CodeRecovery.{code_vanishing}
@@ -11,6 +12,8 @@ use Rattle.counting.specs.Counting.{conditions}
 use Rattle.code.specs.Messages.{is_row}
 use Rattle.code.proofs.Alone.{row_length}
 use Rattle.interpolation.specs.Size.{columns, rows}
+use Rattle.interpolation.specs.declared.pairs.Pair.{Pair}
+use Rattle.interpolation.specs.Pairs.{points, values}
 use Rattle.interpolation.specs.Fitting.{among, Gathered}
 
 -- a pair that is among others
@@ -54,10 +57,6 @@ module _ (F : Meaning) (xs ys : List ℕ) (x y : ℕ) where
           ⊎_elim (λ o. subst Q (sym (left l z i o)) (h i o))
           (λ o. subst Q (sym (ap (λ u. get_or (l ++ z ∷ []) u 0) (let e : i ≡ length l = omega arith in e) ∙ last l z)) q) (cases_lt i (length l))
 
--- no pair is taken yet
-pub no_pairs : (F : Meaning) → Pairs F [] []
-no_pairs F = record { same = refl; low_x = λ t h. absurd (omega arith); low_y = λ t h. absurd (omega arith); apart = λ s t o h. absurd (omega arith) }
-
 -- fewer pairs ask fewer conditions
 pub conditions_le : (n N r : ℕ) → n ≤ N → conditions n r ≤ conditions N r
 conditions_le n N r h =
@@ -95,8 +94,14 @@ more_gathered F limit size xs ys x y xs' ys' G es px hy new h ex ey =
     }
 
 -- the same curve, said of equal pairs and an equal degree
-pub fitted_same : (F : Meaning) (v d d' r : ℕ) (xs xs' ys ys' cells : List ℕ) → d ≡ d' → xs ≡ xs' → ys ≡ ys'
-    → Fitted (codes F) columns rows v d r (length xs) (at xs) (at ys) (table F columns cells) → Fitted (codes F) columns rows v d' r (length xs') (at xs') (at ys') (table F columns cells)
-fitted_same F v d d' r xs xs' ys ys' cells ed ex ey h =
-    subst (λ z. Fitted (codes F) columns rows v z r (length xs') (at xs') (at ys') (table F columns cells)) ed
-    (subst₂ (λ x y. Fitted (codes F) columns rows v d r (length x) (at x) (at y) (table F columns cells)) ex ey h)
+pub fitted_same : (F : Meaning) (v v' d d' r : ℕ) (ps qs : List Pair) (cells : List ℕ) → v ≡ v' → d ≡ d' → ps ≡ qs
+    → Fitted (codes F) columns rows v d r (length ps) (at (points ps)) (at (values ps)) (table F columns cells)
+    → Fitted (codes F) columns rows v' d' r (length (points qs)) (at (points qs)) (at (values qs)) (table F columns cells)
+fitted_same F v v' d d' r ps qs cells ev ed ep h =
+    subst (λ n. Fitted (codes F) columns rows v' d' r n (at (points qs)) (at (values qs)) (table F columns cells)) (sym (length-map qs (λ p. p.point)))
+    (subst₂ (λ z l. Fitted (codes F) columns rows v' z r (length l) (at (points l)) (at (values l)) (table F columns cells)) ed ep
+    (subst (λ w. Fitted (codes F) columns rows w d r (length ps) (at (points ps)) (at (values ps)) (table F columns cells)) ev h))
+
+pub lies_prop : (F : Meaning) (cells f : List ℕ) → IsProp (Lies (codes F) columns rows (table F columns cells) f)
+unfolding ZeroAt
+lies_prop F cells f = Prim.hlevel props

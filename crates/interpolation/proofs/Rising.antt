@@ -1,5 +1,6 @@
 -- How rows of weights go on.
-use Rattle.std.proofs.Common.{◌≡◌, ℕ, zero, suc, ◌+◌, ◌<◌, List, refl, ap₂, add-one, arith}
+use Rattle.std.proofs.Common.{◌≡◌, ℕ, zero, suc, ◌+◌, ◌<◌, ◌≤◌, List, ◌++◌, length, take, drop, refl, ◌∙◌, ap₂, add-one, arith, length-append, length-drop, length-take}
+use Rattle.std.proofs.lemmas.List.{get_or_append_left, get_or-take}
 use Rattle.algebra.specs.Ring.{Ops}
 use Rattle.algebra.specs.Field.{Meaning, codes}
 use Rattle.algebra.specs.Curve.{weight, sum, dot}
@@ -29,6 +30,17 @@ module _ (F : Meaning) (a : ℕ) where
   unfolding raised weight
   raised_weighed u n l h zero lt = refl
   raised_weighed u n l h (suc i) lt = ap₂ (λ x y. F.sum (F.product a x) y) (raised_weighed u n l h i (omega arith)) (h i (omega arith))
+
+  -- A row whose first n weights are raised in place.
+  pub front_raised : (u n : ℕ) (l front : List ℕ) → n ≤ length l → length front ≡ length (take n l)
+      → (Weighed F a u (length (take n l)) (take n l) → Weighed F a (suc u) (length (take n l)) front) → Weighed F a u n l → Weighed F a (u + 1) n (front ++ drop n l)
+  front_raised u n l front fits size raises weighed i h =
+      let long = length-take n l in
+      rw add-one (get_or_append_left front _ 0 i (omega arith) ∙ raises (λ j k. get_or-take n l j 0 (omega arith) ∙ weighed j (omega arith)) i (omega arith))
+
+-- What is written over the front of a list.
+pub front_length : (n : ℕ) (l front : List ℕ) → length front ≡ length (take n l) → length (front ++ drop n l) ≡ length l
+front_length n l front size = let a = length-append front (drop n l) in let b = length-take n l in let c = length-drop n l in omega arith
 
 module _ {K : Type 0} (O : Ops K) where
   pub dot_none : (h f : ℕ → K) → O.zero ≡ dot O 0 h f

@@ -9,8 +9,9 @@ use Rattle.algebra.specs.CodeRecovery.{table}
 use Rattle.algebra.proofs.Carried.{some}
 use Rattle.algebra.proofs.FirstFound.{read_lt}
 use Rattle.interpolation.specs.Size.{columns}
-use Rattle.interpolation.specs.declared.steps.Region.{Region}
-use Rattle.interpolation.specs.Steps.{cell, wide_at, above_at, lighter, Light, mixed_at, raised_at, RowsSet, translated, Translated, Moved}
+use Rattle.interpolation.specs.declared.region.Region.{Region}
+use Rattle.interpolation.specs.Region.{cell}
+use Rattle.interpolation.specs.Steps.{wide_at, above_at, lighter, Light, mixed_at, raised_at, RowsSet, translated, Translated, Moved}
 use Rattle.interpolation.proofs.Codes.{read_zero, mixed_read, mixed_zero, mixed_none}
 
 -- The weighted degree grows with the power of y.
@@ -61,9 +62,6 @@ pub record Part (F : Meaning) (X g : ℕ) (old : List ℕ) (n k : ℕ) (mid : Li
   pub low : (i j : ℕ) → i < columns → j < k → cell mid i j ≡ cell old i j
   pub high : (i j : ℕ) → i < X → j < n → read F.size (cell mid i (k + j)) ≡ translated F g (table F columns old) n k i j
   pub size : length mid ≡ length old
-
-pub part_none : (F : Meaning) (X g : ℕ) (l : List ℕ) (k : ℕ) → Part F X g l 0 k l
-part_none F X g l k = record { low = λ i j _ _. refl; high = λ i j _ h. absurd (omega arith); size = refl }
 
 module _ (F : Meaning) (L : Laws F) (r : Region) (g : ℕ) (old mid new : List ℕ) (n k : ℕ) (wide : r.width ≤ columns) (all : suc k + n ≡ r.height)
     (light : DegreeBelow (codes F) r.width r.height r.weight r.width (table F columns old))

@@ -1,5 +1,5 @@
 -- What a fitting answers: opening, taking a pair, walking.
-use Rattle.std.specs.Prelude.{◌≡◌, ℕ, ◌+◌, ◌-◌, ◌*◌, ◌≤◌, Bool, false, cond, ◌&&◌, ◌||◌, List, [], ◌∷◌, ◌++◌, length, take, Some, None, Ok, Err, Option, Result, ◌==◌, nat_le, nat_lt}
+use Rattle.std.specs.Prelude.{◌≡◌, ℕ, ◌+◌, ◌-◌, ◌*◌, ◌≤◌, Bool, false, ◌&&◌, ◌||◌, List, [], ◌∷◌, ◌++◌, length, Some, None, Ok, Err, Option, Result, ◌==◌, nat_le, nat_lt, if◌then◌else◌}
 use Rattle.fault.specs.declared.Fault.{Fault}
 use Rattle.fault.specs.declared.Fault.TheVariants.{Shape, Place, Letter, Reach as OutOfReach, Twice, Full}
 use Rattle.algebra.specs.Field.{Meaning, codes}
@@ -8,7 +8,6 @@ use Rattle.algebra.specs.CodeRecovery.{Pairs as Different, table, at}
 use Rattle.counting.specs.Counting.{limits, by_counting}
 use Rattle.interpolation.specs.Size.{columns, rows}
 use Rattle.interpolation.specs.declared.plan.Plan.{Plan}
-use Rattle.interpolation.specs.declared.pairs.Pairs.{Pairs}
 
 -- the limits of k and t
 abbrev pub shaped : (k t : ℕ) → Bool
@@ -20,19 +19,12 @@ reached_by None = Err (OutOfReach (record { level = 0; place = 0 }))
 
 -- what opening answers: the smallest multiplicity by which the limit meets the counting rule
 abbrev pub opened : (k t limit : ℕ) → Result ℕ Fault
-opened k t limit = cond (shaped k t) (reached_by (by_counting limits (k - 1) t limit)) (Err Shape)
+opened k t limit = if shaped k t then reached_by (by_counting limits (k - 1) t limit) else Err Shape
 
 -- a plan for these arguments, or the refusal
 abbrev pub Opens : (k t limit : ℕ) → Result Plan Fault → Type 0
 Opens k t limit (Ok p) = (opened k t limit ≡ Ok p.r) × (p.k ≡ k) × (p.t ≡ t) × (p.limit ≡ limit)
 Opens k t limit (Err f) = opened k t limit ≡ Err f
-
--- the points and the values of the pairs held
-abbrev pub points_of : Pairs → List ℕ
-points_of p = take p.held p.points
-
-abbrev pub values_of : Pairs → List ℕ
-values_of p = take p.held p.values
 
 -- the pair (x, y) is among them
 abbrev pub among : List ℕ → List ℕ → ℕ → ℕ → Bool
@@ -43,11 +35,11 @@ among (a ∷ xs) (b ∷ ys) x y = (a == x && b == y) || among xs ys x y
 -- the answer of taking the pair (x, y)
 abbrev pub taken : Meaning → (limit : ℕ) → List ℕ → List ℕ → (x y : ℕ) → Result ℕ Fault
 taken F limit xs ys x y =
-    cond (nat_lt x F.size && nat_lt x 64)
-    (cond (nat_lt y F.size)
-    (cond (among xs ys x y) (Err Twice) (cond (nat_lt (length xs) limit) (Ok (length xs + 1)) (Err Full)))
-    (Err Letter))
-    (Err Place)
+    if nat_lt x F.size && nat_lt x 64
+    then (if nat_lt y F.size
+    then (if among xs ys x y then Err Twice else if nat_lt (length xs) limit then Ok (length xs + 1) else Err Full)
+    else Err Letter)
+    else Err Place
 
 -- what is held after an answer
 abbrev pub kept : Result ℕ Fault → List ℕ → ℕ → List ℕ

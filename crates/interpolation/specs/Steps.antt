@@ -1,16 +1,14 @@
 -- The steps of the walk on the cells of a curve.
-use Rattle.std.specs.Prelude.{◌≡◌, ℕ, zero, suc, ◌+◌, ◌-◌, ◌*◌, ◌<◌, ◌≤◌, cond, ◌≢◌, List, length, nat_le, nat_lt, slice_index}
+use Rattle.std.specs.Prelude.{◌≡◌, ℕ, zero, suc, ◌+◌, ◌-◌, ◌*◌, ◌<◌, ◌≤◌, ◌≢◌, List, length, nat_le, nat_lt, slice_index, if◌then◌else◌}
+use Rattle.std.proofs.Common.{arith}
 use Rattle.algebra.specs.Field.{Meaning, codes}
 use Rattle.algebra.specs.Curve.{Table, DegreeBelow}
 use Rattle.algebra.specs.Interpolation.{Same}
 use Rattle.algebra.specs.Walk.{moved}
 use Rattle.algebra.specs.CodeRecovery.{table}
 use Rattle.interpolation.specs.Size.{columns, rows}
-use Rattle.interpolation.specs.declared.steps.Region.{Region}
-
--- the coefficient of x^i y^j
-abbrev pub cell : List ℕ → ℕ → ℕ → ℕ
-cell l i j = slice_index l (i + columns * j)
+use Rattle.interpolation.specs.declared.region.Region.{Region}
+use Rattle.interpolation.specs.Region.{cell}
 
 -- how many coefficients of row j are in use
 abbrev pub wide_at : Region → ℕ → ℕ
@@ -20,15 +18,20 @@ wide_at r j = r.width - r.weight * j
 abbrev pub above_at : Region → ℕ → ℕ
 above_at r j = wide_at r (j + 1)
 
+pub lighter_heavy : (r : Region) → r.weight - 1 ≤ columns
+lighter_heavy r = let h = r.heavy in omega arith
+
 -- the region with the weight of y one less
 abbrev pub lighter : Region → Region
-lighter r = record { width = r.width; weight = r.weight - 1; height = r.height }
+lighter r = record { width = r.width; weight = r.weight - 1; height = r.height; wide = r.wide; heavy = lighter_heavy r; high = r.high }
 
--- the region lies in a curve
-pub record Inside (r : Region) : Type 0 where
-  pub wide : r.width ≤ columns
-  pub heavy : r.weight ≤ columns
-  pub high : r.height ≤ rows
+-- what stays of the region after a division by x^m: the same rows, with fewer powers of x
+pub record Narrower (r : Region) (m : ℕ) (low : Region) : Type 0 where
+  pub weight : low.weight ≡ r.weight
+  pub height : low.height ≡ r.height
+  pub some : 1 ≤ low.width
+  pub most : low.width ≤ r.width
+  pub enough : r.width ≤ m + low.width
 
 -- outside the region the curve is zero
 unfoldable pub Light : Meaning → Region → List ℕ → Type 0
@@ -36,7 +39,7 @@ Light F r c = DegreeBelow (codes F) r.width r.height r.weight r.width (table F c
 
 -- the coefficient of x^i y^j of l divided by x^m, where X powers of x are in use
 abbrev pub lowered_at : (X m : ℕ) → List ℕ → ℕ → ℕ → ℕ
-lowered_at X m l j i = cond (nat_lt (m + i) X) (cell l (m + i) j) 0
+lowered_at X m l j i = if nat_lt (m + i) X then cell l (m + i) j else 0
 
 abbrev pub lowered_rows : Region → ℕ → List ℕ → ℕ → ℕ → ℕ
 lowered_rows r m l j i = lowered_at (wide_at r j) m l j i
@@ -47,7 +50,7 @@ mixed_at F root l j i = F.sum (F.product root (cell l i (j + 1))) (cell l i j)
 
 -- that of row j times x^j
 abbrev pub raised_at : List ℕ → ℕ → ℕ → ℕ
-raised_at l j i = cond (nat_le j i) (cell l (i - j) j) 0
+raised_at l j i = if nat_le j i then cell l (i - j) j else 0
 
 -- In the row j, the cells from lo to hi are those of f, and all else is as it was.
 pub record RowSet (lo hi j : ℕ) (f : ℕ → ℕ) (old new : List ℕ) : Type 0 where
@@ -88,13 +91,11 @@ pub record Divided (r : Region) (m : ℕ) (old new : List ℕ) : Type 0 where
   pub beside : (i j : ℕ) → i < columns → wide_at r j ≤ i → cell new i j ≡ cell old i j
   pub size : length new ≡ length old
 
--- divided by a power of x, after which fewer powers are in use
-pub record Lowered (r : Region) (width : ℕ) (old new : List ℕ) : Type 0 where
+-- divided by a power of x, after which the region low is in use
+pub record Lowered (r low : Region) (old new : List ℕ) : Type 0 where
   pub power : ℕ
   pub divided : Divided r power old new
-  pub some : 1 ≤ width
-  pub most : width ≤ r.width
-  pub enough : r.width ≤ power + width
+  pub narrower : Narrower r power low
 
 -- the coefficients at x = 0, those in use first
 pub record FootOf (height used : ℕ) (l c : List ℕ) : Type 0 where

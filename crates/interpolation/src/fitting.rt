@@ -3,13 +3,14 @@ ghost use Rattle.std.specs.Prelude.{◌≡◌, ◌&&◌, [], length, nat_lt};
 ghost use Rattle.code.specs.Meaning.{within};
 ghost use Rattle.code.specs.Answers.{reached, laid};
 ghost use Rattle.interpolation.specs.Recovered.{recovered};
-ghost use Rattle.interpolation.specs.Fitting.{points_of, values_of, taken, kept, Gathered, Around};
+ghost use Rattle.interpolation.specs.Pairs.{points_of, values_of};
+ghost use Rattle.interpolation.specs.Fitting.{taken, kept, Gathered, Around};
 
 use crate::curve::Curve;
 use crate::koetter::interpolate;
-use crate::pairs::Pairs;
+use crate::pairs::{Pair, Pairs};
 use crate::plan::{MAX_AGREEMENT, Plan};
-use crate::walk::walk_curve;
+use crate::walk::Search;
 use fault::Fault;
 use field::Field;
 
@@ -19,6 +20,7 @@ pub struct Gathering<'a, F: Field> {
     field: &'a F,
     plan: Plan,
     pairs: Pairs,
+    pub ghost gathered: { Gathered (F.means field.now) plan.limit (points_of pairs) (values_of pairs) },
 }
 
 // Takes no further pair, and is walked once.
@@ -28,6 +30,8 @@ pub struct Closed<'a, F: Field> {
     plan: Plan,
     pairs: Pairs,
     curve: Curve,
+    // Whether a coefficient is zero has to be a proposition here, so the fact stands without the place of one that is not.
+    pub ghost around: { ∥ Around (F.means field.now) plan.k plan.t plan.r (points_of pairs) (values_of pairs) curve.cells ∥₁ },
 }
 
 // Whether the point is below both the field's size and the highest number of points.
@@ -44,7 +48,6 @@ impl<'a, F: Field> Gathering<'a, F> {
         ensures plan { result.plan ≡ plan }
         ensures points { points_of result.pairs ≡ [] }
         ensures values { values_of result.pairs ≡ [] }
-        ensures made { Gathered (F.means result.field.now) result.plan.limit (points_of result.pairs) (values_of result.pairs) }
     {
         Gathering {
             field,
@@ -55,13 +58,11 @@ impl<'a, F: Field> Gathering<'a, F> {
 
     // Takes one pair, and answers how many are held.
     pub fn take(&mut self, point: u8, value: u8) -> Result<usize, Fault>
-        requires made { Gathered (F.means self.old.field.now) self.old.plan.limit (points_of self.old.pairs) (values_of self.old.pairs) }
         ensures answer { result ≡ taken (F.means self.old.field.now) self.old.plan.limit (points_of self.old.pairs) (values_of self.old.pairs) point value }
         ensures points { points_of self.new.pairs ≡ kept result (points_of self.old.pairs) point }
         ensures values { values_of self.new.pairs ≡ kept result (values_of self.old.pairs) value }
         ensures plan { self.new.plan ≡ self.old.plan }
         ensures field { self.new.field.now ≡ self.old.field.now }
-        ensures made { Gathered (F.means self.new.field.now) self.new.plan.limit (points_of self.new.pairs) (values_of self.new.pairs) }
     {
         let size = self.field.size();
         if !is_point(point, size) {
@@ -70,34 +71,26 @@ impl<'a, F: Field> Gathering<'a, F> {
         if value as u16 >= size {
             return Err(Fault::Letter);
         }
-        if self.pairs.has(point, value) {
+        if self.pairs.has(Pair { point, value }) {
             return Err(Fault::Twice);
         }
         let held = self.pairs.len();
         if held >= self.plan.limit {
             return Err(Fault::Full);
         }
-        self.pairs.push(point, value);
+        self.pairs.push(Pair { point, value });
         Ok(held + 1)
     }
 
     // Fits a curve to the pairs taken.
     pub fn close(self) -> Closed<'a, F>
-        requires made { Gathered (F.means self.field.now) self.plan.limit (points_of self.pairs) (values_of self.pairs) }
         ensures field { result.field.now ≡ self.entry.field.now }
         ensures plan { result.plan ≡ self.entry.plan }
         ensures pairs { result.pairs ≡ self.entry.pairs }
         ensures made { Around (F.means result.field.now) result.plan.k result.plan.t result.plan.r (points_of result.pairs) (values_of result.pairs) result.curve.cells }
     {
         let Gathering { field, plan, pairs } = self;
-        let curve = interpolate(
-            field,
-            plan.k - 1,
-            plan.degree(),
-            plan.r,
-            pairs.points(),
-            pairs.values(),
-        );
+        let curve = interpolate(field, plan.bound(), plan.r, pairs.held());
         Closed {
             field,
             plan,
@@ -124,7 +117,6 @@ impl<'a, F: Field> Closed<'a, F> {
 
     // Lists the polynomials of k coefficients through at least t of the pairs, and uses the fitting up, also when refused.
     pub fn walk(self, buf: &mut [u8]) -> Result<usize, Fault>
-        requires made { Around (F.means self.field.now) self.plan.k self.plan.t self.plan.r (points_of self.pairs) (values_of self.pairs) self.curve.cells }
         ensures answer { result ≡ reached self.entry.plan.k (length buf.old) (recovered (F.means self.entry.field.now) self.entry.plan.k self.entry.plan.t (points_of self.entry.pairs) (values_of self.entry.pairs)) within }
         ensures buffer { buf.new ≡ laid (length buf.old) (recovered (F.means self.entry.field.now) self.entry.plan.k self.entry.plan.t (points_of self.entry.pairs) (values_of self.entry.pairs)) result }
     {
@@ -134,18 +126,12 @@ impl<'a, F: Field> Closed<'a, F> {
             pairs,
             curve,
         } = self;
-        match walk_curve(
+        let search = Search {
             field,
-            &curve,
-            plan.k,
-            plan.t,
-            plan.degree(),
-            pairs.points(),
-            pairs.values(),
-            buf,
-        ) {
-            Some(count) => Ok(count),
-            None => Err(Fault::Short),
-        }
+            pairs: pairs.held(),
+            k: plan.k,
+            t: plan.t,
+        };
+        search.walk(&curve, plan.bound(), buf)
     }
 }

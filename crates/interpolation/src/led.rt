@@ -1,15 +1,12 @@
-// A curve with its lead, and what a step does with one curve. Only the coefficients up to the curve's weighted degree are touched.
+// A curve with its lead, and what a step does with one curve. Only the coefficients up to the curve's weighted degree are touched:
+// row j is cut from the table by its number, since each row has another width.
 ghost use Rattle.std.specs.Prelude.{◌≡◌, ℕ, suc, ◌+◌, ◌*◌, ◌<◌, ◌≤◌, ◌≢◌, length};
-ghost use Rattle.algebra.specs.Field.{codes};
-ghost use Rattle.algebra.specs.Curve.{DegreeBelow, discrepancy};
-ghost use Rattle.algebra.specs.CodeRecovery.{table};
 ghost use Rattle.interpolation.specs.Size.{columns, rows, cells as all};
-ghost use Rattle.interpolation.specs.Weighed.{Weighed};
 ghost use Rattle.interpolation.specs.Region.{mixed_cell, lifted_cell, Changed};
-ghost use Rattle.interpolation.specs.Stepped.{Taken};
+ghost use Rattle.interpolation.specs.Stepped.{Derived, Valued, Taken};
 
-use crate::curve::{CELLS, COLUMNS, Curve, ROWS};
-use crate::rows::{dot, lift_row, mix_row, width};
+use crate::curve::{Bound, COLUMNS, Curve};
+use crate::rows::{dot, lift_row, mix_row};
 use field::Field;
 
 // The leading monomial of curve j is x^lead y^j.
@@ -19,67 +16,34 @@ pub(crate) struct LedCurve {
     pub(crate) lead: u8,
 }
 
-// How many rows have a coefficient of weighted degree `degree` at most.
-fn height(weight: usize, degree: usize) -> usize
-    requires weight { weight < rows }
-    requires degree { degree < columns }
-    ensures low { result ≤ rows }
-    ensures rest { (j : ℕ) → result ≤ j → j < rows → degree < weight * j }
-{
-    if weight == 0 {
-        ROWS
-    } else {
-        let n = degree / weight + 1;
-        if n < ROWS { n } else { ROWS }
-    }
-}
-
-// What the curve gives under the weights of a derivative: the derivative, where the coefficients that are passed over are zero.
-pub(crate) fn value<F: Field>(
-    field: &F,
-    weight: usize,
-    degree: usize,
-    wx: &[u8],
-    wy: &[u8],
-    curve: &Curve,
-) -> u8
-    requires weight { weight < rows }
-    requires degree { degree < columns }
-    requires wide { degree < length wx.now }
+// The derivative of a curve whose weights are given.
+fn value_cells<F: Field>(field: &F, bound: Bound, wx: &[u8], wy: &[u8], cells: &[u8]) -> u8
+    requires wide { bound.degree < length wx.now }
     requires high { rows ≤ length wy.now }
-    ensures { (a b u w : ℕ) → Weighed (F.means field.now) a u (degree + 1) wx.now → Weighed (F.means field.now) b w rows wy.now → DegreeBelow (codes (F.means field.now)) columns rows weight (suc degree) (table (F.means field.now) columns curve.now.cells) → result ≡ discrepancy (codes (F.means field.now)) columns rows a b u w (table (F.means field.now) columns curve.now.cells) }
+    requires cells { length cells.now ≡ all }
+    ensures { Derived (F.means field.now) bound.weight bound.degree wx.now wy.now cells.now result }
 {
     let mut sum = 0;
-    for j in 0..height(weight, degree) {
+    for j in 0..bound.height() {
         let from = COLUMNS * j;
-        let n = width(weight, degree, j);
+        let n = bound.width(j);
         sum = field.add(
             sum,
-            field.mul(wy[j], dot(field, wx, &curve.cells[from..from + n])),
+            field.mul(wy[j], dot(field, wx, &cells[from..from + n])),
         );
     }
     sum
 }
 
 // d times a curve less e times the pivot, in its place.
-fn mix_cells<F: Field>(
-    field: &F,
-    weight: usize,
-    degree: usize,
-    d: u8,
-    cells: &mut [u8],
-    e: u8,
-    pivot: &[u8],
-)
-    requires weight { weight < rows }
-    requires degree { degree < columns }
+fn mix_cells<F: Field>(field: &F, bound: Bound, d: u8, cells: &mut [u8], e: u8, pivot: &[u8])
     requires cells { length cells.old ≡ all }
     requires pivot { length pivot.now ≡ all }
-    ensures { Changed weight degree rows (mixed_cell (F.means field.now) d cells.old e pivot.now) cells.old cells.new }
+    ensures { Changed bound.weight bound.degree rows (mixed_cell (F.means field.now) d cells.old e pivot.now) cells.old cells.new }
 {
-    for j in 0..height(weight, degree) {
+    for j in 0..bound.height() {
         let from = COLUMNS * j;
-        let n = width(weight, degree, j);
+        let n = bound.width(j);
         mix_row(
             field,
             d,
@@ -91,67 +55,71 @@ fn mix_cells<F: Field>(
 }
 
 // x - a times a curve, in its place.
-fn lift_cells<F: Field>(field: &F, weight: usize, degree: usize, a: u8, cells: &mut [u8])
-    requires weight { weight < rows }
-    requires degree { degree < columns }
+fn lift_cells<F: Field>(field: &F, bound: Bound, a: u8, cells: &mut [u8])
     requires cells { length cells.old ≡ all }
-    ensures { Changed weight degree rows (lifted_cell (F.means field.now) a cells.old) cells.old cells.new }
+    ensures { Changed bound.weight bound.degree rows (lifted_cell (F.means field.now) a cells.old) cells.old cells.new }
 {
-    for j in 0..height(weight, degree) {
+    for j in 0..bound.height() {
         let from = COLUMNS * j;
-        let n = width(weight, degree, j);
+        let n = bound.width(j);
         lift_row(field, a, &mut cells[from..from + n]);
     }
 }
 
-// A multiple of the pivot, whose discrepancy is d, is taken off curve j, whose discrepancy is e, if it fails the condition.
-pub(crate) fn mix<F: Field>(
-    field: &F,
-    weight: usize,
-    j: usize,
-    led: &mut LedCurve,
-    d: u8,
-    e: u8,
-    pivot: &Curve,
-)
-    requires weight { weight < rows }
-    requires row { j < rows }
-    requires room { e ≢ 0 → led.old.lead + weight * j < columns }
-    ensures { Taken (F.means field.now) weight j d e pivot.now.cells led.old led.new }
-{
-    if e != 0 {
-        let degree = led.lead as usize + weight * j;
-        mix_cells(
-            field,
-            weight,
-            degree,
-            d,
-            &mut led.curve.cells,
-            e,
-            &pivot.cells,
-        );
+impl LedCurve {
+    // The discrepancy of the curve, which is curve j, under the weights; zero where it is not live.
+    pub(crate) fn value<F: Field>(
+        &self,
+        field: &F,
+        bound: Bound,
+        j: usize,
+        wx: &[u8],
+        wy: &[u8],
+    ) -> u8
+        requires row { j < rows }
+        requires wide { bound.degree < length wx.now }
+        requires high { rows ≤ length wy.now }
+        ensures { Valued (F.means field.now) bound wx.now wy.now self.now j result }
+    {
+        let degree = bound.degree_of(self.lead, j);
+        if degree <= bound.degree {
+            value_cells(field, bound.up_to(degree), wx, wy, &self.curve.cells)
+        } else {
+            0
+        }
     }
-}
 
-// x - a times curve j: its lead goes up by one. Where it is live no more its coefficients are left alone.
-pub(crate) fn lift<F: Field>(
-    field: &F,
-    weight: usize,
-    most: usize,
-    j: usize,
-    led: &mut LedCurve,
-    a: u8,
-)
-    requires weight { weight < rows }
-    requires most { most < columns }
-    requires row { j < rows }
-    requires lead { led.old.lead < columns }
-    ensures lead { led.new.lead ≡ suc led.old.lead }
-    ensures cells { led.new.lead + weight * j ≤ most → Changed weight (led.new.lead + weight * j) rows (lifted_cell (F.means field.now) a led.old.curve.cells) led.old.curve.cells led.new.curve.cells }
-{
-    led.lead += 1;
-    let degree = led.lead as usize + weight * j;
-    if degree <= most {
-        lift_cells(field, weight, degree, a, &mut led.curve.cells);
+    // A multiple of the pivot, whose discrepancy is d, is taken off curve j, whose discrepancy is e, if it fails the condition.
+    pub(crate) fn mix<F: Field>(
+        &mut self,
+        field: &F,
+        bound: Bound,
+        j: usize,
+        d: u8,
+        e: u8,
+        pivot: &Curve,
+    )
+        requires row { j < rows }
+        requires room { e ≢ 0 → self.old.lead + bound.weight * j < columns }
+        ensures { Taken (F.means field.now) bound j d e pivot.now.cells self.old self.new }
+    {
+        if e != 0 {
+            let reach = bound.up_to(bound.degree_of(self.lead, j));
+            mix_cells(field, reach, d, &mut self.curve.cells, e, &pivot.cells);
+        }
+    }
+
+    // x - a times curve j: its lead goes up by one. Where it is live no more its coefficients are left alone.
+    pub(crate) fn lift<F: Field>(&mut self, field: &F, bound: Bound, j: usize, a: u8)
+        requires row { j < rows }
+        requires lead { self.old.lead < columns }
+        ensures lead { self.new.lead ≡ suc self.old.lead }
+        ensures cells { self.new.lead + bound.weight * j ≤ bound.degree → Changed bound.weight (self.new.lead + bound.weight * j) rows (lifted_cell (F.means field.now) a self.old.curve.cells) self.old.curve.cells self.new.curve.cells }
+    {
+        self.lead += 1;
+        let degree = bound.degree_of(self.lead, j);
+        if degree <= bound.degree {
+            lift_cells(field, bound.up_to(degree), a, &mut self.curve.cells);
+        }
     }
 }

@@ -8,6 +8,7 @@ mod koetter;
 mod led;
 mod pairs;
 mod plan;
+mod region;
 mod rows;
 mod steps;
 mod taking;

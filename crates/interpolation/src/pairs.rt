@@ -1,12 +1,67 @@
-// The pairs that a fitting has taken, in fixed tables.
-ghost use Rattle.std.specs.Prelude.{◌≡◌, ◌<◌, ◌≤◌, length};
+// The pairs that a fitting has taken, in a fixed table.
+ghost use Rattle.std.specs.Prelude.{◌≡◌, ◌<◌, ◌≤◌, [], ◌∷◌, ◌++◌, length};
 
 use crate::plan::MAX_PAIRS;
 
+// A point, and the value that a polynomial is to have there: codes of elements of the field.
+#[derive(Clone, Copy, PartialEq, Eq)]
+pub struct Pair {
+    pub(crate) point: u8,
+    pub(crate) value: u8,
+}
+
 #[derive(Clone, Copy)]
 pub struct Pairs {
-    pub(crate) points: [u8; MAX_PAIRS],
-    pub(crate) values: [u8; MAX_PAIRS],
+    pub(crate) table: [Pair; MAX_PAIRS],
     pub(crate) held: usize,
     ghost few: { held ≤ 1024 },
+}
+
+impl Pairs {
+    ghost use Rattle.interpolation.specs.Pairs.{pairs_of, points_of, values_of};
+    ghost use Rattle.interpolation.specs.Fitting.{among};
+
+    pub(crate) fn new() -> Pairs
+        ensures points { points_of result ≡ [] }
+        ensures values { values_of result ≡ [] }
+    {
+        Pairs {
+            table: [Pair { point: 0, value: 0 }; MAX_PAIRS],
+            held: 0,
+        }
+    }
+
+    // The pairs that are held.
+    pub(crate) fn held(&self) -> &[Pair]
+        ensures { result.now ≡ pairs_of self.now }
+    {
+        &self.table[..self.held]
+    }
+
+    // How many pairs are held.
+    pub(crate) fn len(&self) -> usize
+        ensures value { result ≡ length (points_of self.now) }
+        ensures values { result ≡ length (values_of self.now) }
+        ensures few { result ≤ 1024 }
+        ensures held { result ≡ self.now.held }
+    {
+        self.held
+    }
+
+    // Whether the pair is held.
+    pub(crate) fn has(&self, pair: Pair) -> bool
+        ensures { result ≡ among (points_of self.now) (values_of self.now) pair.point pair.value }
+    {
+        self.held().contains(&pair)
+    }
+
+    // One pair more.
+    pub(crate) fn push(&mut self, pair: Pair)
+        requires { self.old.held < 1024 }
+        ensures points { points_of self.new ≡ points_of self.old ++ pair.point ∷ [] }
+        ensures values { values_of self.new ≡ values_of self.old ++ pair.value ∷ [] }
+    {
+        self.table[self.held] = pair;
+        self.held += 1;
+    }
 }

@@ -1,6 +1,8 @@
 // What a fitting is opened with, checked: k coefficients, agreement t, a limit of pairs, and the multiplicity by which the limit meets the counting rule.
-ghost use Rattle.std.specs.Prelude.{◌≡◌, ◌-◌, ◌<◌, ◌≤◌, true};
+ghost use Rattle.std.specs.Prelude.{◌≡◌, ◌-◌, ◌*◌, ◌<◌, ◌≤◌, true};
 ghost use Rattle.counting.specs.Counting.{limits, suits};
+
+use crate::curve::Bound;
 
 // The most coefficients of a polynomial, the highest agreement, and more pairs than any limit allows.
 pub const MAX_COEFFICIENTS: usize = 16;
@@ -23,4 +25,17 @@ pub struct Plan {
     ghost r_low: { 1 ≤ r },
     ghost r_high: { r ≤ 4 },
     ghost counted: { suits limits (k - 1) t limit r ≡ true },
+}
+
+impl Plan {
+    // What the terms of the curve keep to.
+    pub(crate) fn bound(&self) -> Bound
+        ensures weight { result.weight ≡ self.now.k - 1 }
+        ensures degree { result.degree ≡ self.now.r * self.now.t - 1 }
+    {
+        Bound {
+            weight: self.k - 1,
+            degree: self.r * self.t - 1,
+        }
+    }
 }

@@ -7,15 +7,11 @@
 
 #![tactic(auto)]
 
-mod codes;
 mod task;
 
-use anyhow::anyhow;
 use code::{Code, number_of};
-use codes::{binary_code, block, header};
-use concatenated::Concatenated;
 use fault::Fault;
-use field::Field;
+use house_codes::{brine_code, header_code, slab_code, slab_inner_code};
 use record::{Answer, Call, replay};
 use std::io;
 use std::io::Read;
@@ -23,18 +19,6 @@ use task::{Chosen, ROOM, Task};
 
 // more than any task has
 const LONGEST_INPUT: u64 = 65_536;
-
-// Why a call was refused, in a line.
-fn print_fault(rt: &HostRuntime, fault: Fault) -> io::Result<()> {
-    let number = fault.number();
-    match fault {
-        Fault::Reach(reach) => println!(rt;
-            "refused {number} level {} place {}",
-            reach.level, reach.place
-        ),
-        _ => println!(rt; "refused {number}"),
-    }
-}
 
 // A line for each of the first `count` messages: its number, where it has one, and its letters.
 fn print_messages(
@@ -61,27 +45,20 @@ fn print_messages(
 
 // What a call answered.
 fn print_answer(rt: &HostRuntime, call: Call, answer: Answer) -> io::Result<()> {
-    match call {
-        Call::Hear { place, letter } => print!(rt; "hear {place} {letter}: ")?,
-        Call::Strike { place } => print!(rt; "strike {place}: ")?,
-        Call::List { t, room: _ } => print!(rt; "list {t}: ")?,
-    }
     match answer {
-        Ok(count) => println!(rt; "{count}"),
-        Err(fault) => print_fault(rt, fault),
+        Ok(count) => println!(rt; "{call}: {count}"),
+        Err(fault) => println!(rt; "{call}: {fault}"),
     }
 }
 
 // Serves all the calls in one run, and prints the answers and the lists.
-fn serve<C: Code + Drop>(rt: &HostRuntime, code: C, task: &Task) -> anyhow::Result<()>
-    requires made { C.made code }
-{
+fn serve<C: Code + Drop>(rt: &HostRuntime, code: C, task: &Task) -> anyhow::Result<()> {
     let heap = rt.alloc();
     let dimension = code.dimension();
-    let largest = code.base().saturating_sub(1).min(255) as u8;
+    let largest = u8::try_from(code.base().saturating_sub(1))?;
     println!(rt;
         "family {} letters {} places {} top {} least {}",
-        code.family_number(),
+        C::FAMILY,
         code.letters(),
         code.places(),
         code.top(),
@@ -94,52 +71,12 @@ fn serve<C: Code + Drop>(rt: &HostRuntime, code: C, task: &Task) -> anyhow::Resu
     let mut lists = buffers.as_slice().chunks_exact(ROOM);
     for (call, answer) in calls.iter().zip(answers.as_slice()) {
         print_answer(rt, *call, *answer)?;
-        if let Call::List { t: _, room: _ } = *call {
+        if let Call::List { .. } = *call {
             let bytes = lists.next().unwrap_or(&[]);
             print_messages(rt, bytes, answer.unwrap_or(0), dimension, largest)?;
         }
     }
     Ok(())
-}
-
-fn run_block(rt: &HostRuntime, task: &Task) -> anyhow::Result<()> {
-    let Ok(code) = block() else {
-        return Err(anyhow!("the block's code cannot be made"));
-    };
-    serve(rt, code, task)
-}
-
-fn run_slab(rt: &HostRuntime, task: &Task) -> anyhow::Result<()> {
-    let Ok(outer) = binary_code(4, 15, 4) else {
-        return Err(anyhow!("the slab's outer code cannot be made"));
-    };
-    let Ok(inner) = block() else {
-        return Err(anyhow!("the slab's inner code cannot be made"));
-    };
-    let Ok(code) = Concatenated::new(outer, inner, 6) else {
-        return Err(anyhow!("the slab's codes cannot be joined"));
-    };
-    serve(rt, code, task)
-}
-
-fn run_header(rt: &HostRuntime, task: &Task) -> anyhow::Result<()> {
-    let Ok(code) = header() else {
-        return Err(anyhow!("the header's code cannot be made"));
-    };
-    serve(rt, code, task)
-}
-
-fn run_brine(rt: &HostRuntime, task: &Task) -> anyhow::Result<()> {
-    let Ok(outer) = binary_code(8, 24, 4) else {
-        return Err(anyhow!("the brine's outer code cannot be made"));
-    };
-    let Ok(inner) = binary_code(4, 8, 2) else {
-        return Err(anyhow!("the brine's inner code cannot be made"));
-    };
-    let Ok(code) = Concatenated::new(outer, inner, 4) else {
-        return Err(anyhow!("the brine's codes cannot be joined"));
-    };
-    serve(rt, code, task)
 }
 
 fn main(rt: HostRuntime) -> anyhow::Result<()> {
@@ -161,9 +98,9 @@ fn main(rt: HostRuntime) -> anyhow::Result<()> {
         }
     };
     match task.chosen {
-        Chosen::Block => run_block(&rt, &task),
-        Chosen::Slab => run_slab(&rt, &task),
-        Chosen::Header => run_header(&rt, &task),
-        Chosen::Brine => run_brine(&rt, &task),
+        Chosen::Block => serve(&rt, slab_inner_code(), &task),
+        Chosen::Slab => serve(&rt, slab_code(), &task),
+        Chosen::Header => serve(&rt, header_code(), &task),
+        Chosen::Brine => serve(&rt, brine_code(), &task),
     }
 }

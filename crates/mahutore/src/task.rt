@@ -2,11 +2,13 @@
 use record::Call;
 use std::alloc::{AllocError, AllocFailed, Global};
 use std::fmt;
+use std::num::ParseIntError;
+use std::str::FromStr;
 
 // the bytes that each list has for its buffer, enough for sixteen messages of sixteen letters
 pub const ROOM: usize = 256;
 
-#[derive(Clone, Copy)]
+#[derive(Clone, Copy, Debug, PartialEq, Eq)]
 pub enum Chosen {
     Block,
     Slab,
@@ -21,7 +23,7 @@ pub struct Task {
 }
 
 // Why a text is no task.
-#[derive(Clone, Copy, Debug)]
+#[derive(Clone, Copy, Debug, PartialEq, Eq)]
 pub enum BadTask {
     // the first line names no code
     Code,
@@ -57,46 +59,40 @@ impl fmt::Display for BadTask {
     }
 }
 
-fn read_number(word: &str) -> Result<usize, BadTask> {
-    match word.parse::<usize>() {
-        Ok(n) => Ok(n),
-        Err(_) => Err(BadTask::Number),
+impl From<ParseIntError> for BadTask {
+    fn from(_: ParseIntError) -> BadTask {
+        BadTask::Number
     }
 }
 
-fn read_letter(word: &str) -> Result<u8, BadTask> {
-    match word.parse::<u8>() {
-        Ok(letter) => Ok(letter),
-        Err(_) => Err(BadTask::Number),
-    }
-}
+impl FromStr for Chosen {
+    type Err = BadTask;
 
-fn read_chosen(line: &str) -> Result<Chosen, BadTask> {
-    match line.trim() {
-        "code block" => Ok(Chosen::Block),
-        "code slab" => Ok(Chosen::Slab),
-        "code header" => Ok(Chosen::Header),
-        "code brine" => Ok(Chosen::Brine),
-        _ => Err(BadTask::Code),
+    fn from_str(line: &str) -> Result<Chosen, BadTask> {
+        match line.trim() {
+            "code block" => Ok(Chosen::Block),
+            "code slab" => Ok(Chosen::Slab),
+            "code header" => Ok(Chosen::Header),
+            "code brine" => Ok(Chosen::Brine),
+            _ => Err(BadTask::Code),
+        }
     }
 }
 
 fn read_call(line: &str) -> Result<Call, BadTask> {
     let mut words = line.split_whitespace();
     match (words.next(), words.next(), words.next(), words.next()) {
-        (Some("hear"), Some(place), Some(letter), None) => {
-            let place = read_number(place)?;
-            let letter = read_letter(letter)?;
-            Ok(Call::Hear { place, letter })
-        }
-        (Some("strike"), Some(place), None, None) => {
-            let place = read_number(place)?;
-            Ok(Call::Strike { place })
-        }
-        (Some("list"), Some(t), None, None) => {
-            let t = read_number(t)?;
-            Ok(Call::List { t, room: ROOM })
-        }
+        (Some("hear"), Some(place), Some(letter), None) => Ok(Call::Hear {
+            place: place.parse()?,
+            letter: letter.parse()?,
+        }),
+        (Some("strike"), Some(place), None, None) => Ok(Call::Strike {
+            place: place.parse()?,
+        }),
+        (Some("list"), Some(t), None, None) => Ok(Call::List {
+            t: t.parse()?,
+            room: ROOM,
+        }),
         _ => Err(BadTask::Command),
     }
 }
@@ -105,7 +101,7 @@ impl Task {
     // The task that a text gives. Empty lines are passed over.
     pub(crate) fn read(heap: Global, text: &str) -> Result<Task, BadTask> {
         let mut lines = text.lines();
-        let chosen = read_chosen(lines.next().unwrap_or(""))?;
+        let chosen = lines.next().unwrap_or("").parse()?;
         let mut calls = Vec::new(heap);
         for line in lines {
             if !line.trim().is_empty() {

@@ -1,19 +1,13 @@
 -- The standing letters of a record after the marks of one place change.
-use Rattle.std.proofs.Common.{◌≡◌, ℕ, zero, suc, ◌<◌, ◌≤◌, Bool, true, false, cond, eqb, ltb, List, [], ◌∷◌, map, length, get_or, take, set, replicate, Ok, Err, sym, refl, ap, ◌∙◌, arith}
-use Rattle.std.proofs.lemmas.List.{map-set, get_or-map, get_or-take, length-take-le, take-replicate}
+use Rattle.std.proofs.Common.{◌≡◌, ℕ, zero, suc, ◌<◌, ◌≤◌, Bool, true, false, cond, eqb, ltb, List, ◌∷◌, map, length, get_or, take, set, replicate, sym, refl, ap, ◌∙◌, arith}
+use Rattle.std.proofs.Math.Seq.{take-set-lt}
+use Rattle.std.proofs.lemmas.List.{map-set, set-get_or, get_or-map, get_or-take, length-take-le, take-replicate}
 use Rattle.std.proofs.lemmas.Bool.{cond-true, lt-ltb}
-use Rattle.fault.specs.declared.Fault.TheVariants.{Empty}
 use Rattle.sheet.specs.Letters.{Sheet, none, join, size}
 use Rattle.sheet.specs.Standing.{stands, sheet_of}
 use Rattle.sheet.specs.declared.marks.Marks.{Marks}
 use Rattle.code.specs.Meaning.{Meaning}
-use Rattle.record.specs.Book.{Answer, at, fresh, hear_says, heard, strike_says, struck}
-
-take_set_in : {X : Type 0} (n : ℕ) (l : List X) (i : ℕ) (x : X) → i < n → take n (set l i x) ≡ set (take n l) i x
-take_set_in zero l i x h = absurd (omega arith)
-take_set_in (suc n) [] i x h = refl
-take_set_in (suc n) (y ∷ l) zero x h = refl
-take_set_in (suc n) (y ∷ l) (suc i) x h = ap (λ t. y ∷ t) (take_set_in n l i x (omega arith))
+use Rattle.record.specs.Book.{at, fresh, heard, struck}
 
 map_replicate : {X Y : Type 0} (f : X → Y) (n : ℕ) (x : X) → map f (replicate n x) ≡ replicate n (f x)
 map_replicate f zero x = refl
@@ -26,15 +20,9 @@ standing m marks = sheet_of (take m.n marks)
 pub standing_new : (m : Meaning) (blank : Marks) (k : ℕ) → m.n ≤ k → stands blank ≡ none → standing m (replicate k blank) ≡ fresh m
 standing_new m blank k h e = ap (map stands) (take-replicate m.n k blank h) ∙ map_replicate stands m.n blank ∙ ap (replicate m.n) e
 
--- a place keeps what it has
-same_at : {X : Type 0} (xs : List X) (p : ℕ) (d : X) → set xs p (get_or xs p d) ≡ xs
-same_at [] p d = refl
-same_at (x ∷ xs) zero d = refl
-same_at (x ∷ xs) (suc p) d = ap (λ t. x ∷ t) (same_at xs p d)
-
 module _ (m : Meaning) (marks : List Marks) (p : ℕ) (d : Marks) (lp : p < m.n) (long : m.n ≤ length marks) where
   standing_set : (x : Marks) → standing m (set marks p x) ≡ set (standing m marks) p (stands x)
-  standing_set x = ap (map stands) (take_set_in m.n marks p x lp) ∙ map-set stands (take m.n marks) p x
+  standing_set x = ap (map stands) (take-set-lt m.n marks p x lp) ∙ map-set stands (take m.n marks) p x
 
   standing_at : at (standing m marks) p ≡ stands (get_or marks p d)
   standing_at = get_or-map stands (take m.n marks) p d none (let e = length-take-le m.n marks long in omega arith) ∙ ap stands (get_or-take m.n marks p d lp)
@@ -49,14 +37,8 @@ module _ (m : Meaning) (marks : List Marks) (p : ℕ) (d : Marks) (lp : p < m.n)
     pub hear_after : (x : Marks) → stands x ≡ join l (stands (get_or marks p d)) → standing m (set marks p x) ≡ heard m (standing m marks) p l
     hear_after x e = standing_set x ∙ ap (set (standing m marks) p) (e ∙ ap (join l) (sym standing_at)) ∙ sym (letter _ _ _)
 
-    pub hear_answer : (c : ℕ) → c ≡ size (join l (stands (get_or marks p d))) → Ok c ≡ hear_says m (standing m marks) p l
-    hear_answer c e = ap Ok (e ∙ ap (λ z. size (join l z)) (sym standing_at)) ∙ sym (letter _ _ _)
-
-  pub strike_answer : (r : Answer) → r ≡ cond (eqb (size (stands (get_or marks p d))) 0) (Err Empty) (Ok (size (stands (get_or marks p d)))) → r ≡ strike_says m (standing m marks) p
-  strike_answer r e = e ∙ ap (λ z. cond (eqb (size z) 0) (Err Empty) (Ok (size z))) (sym standing_at) ∙ sym (here _ _)
-
   set_if : (b : Bool) → set (standing m marks) p (cond b (at (standing m marks) p) none) ≡ cond b (standing m marks) (set (standing m marks) p none)
-  set_if true = same_at (standing m marks) p none
+  set_if true = set-get_or (standing m marks) p none
   set_if false = refl
 
   pub strike_after : (x : Marks) → stands x ≡ cond (eqb (size (stands (get_or marks p d))) 0) (stands (get_or marks p d)) none → standing m (set marks p x) ≡ struck m (standing m marks) p

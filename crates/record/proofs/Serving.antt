@@ -1,12 +1,11 @@
 -- What serving one call more keeps.
-use Rattle.std.proofs.Common.{◌≡◌, ℕ, ◌+◌, ◌-◌, ◌<◌, ◌≤◌, min, List, [], ◌∷◌, ◌++◌, length, take, drop, set, sym, refl, ap, ◌∙◌, ⊎_elim, arith}
-use Rattle.std.proofs.lemmas.List.{append_assoc, append-nil, drop_more, drop_all, take_more_set, drop-set-lt, drop-drop, length-append, length-drop, length-take, get_or-take, length-take-le, take-append-drop, take_at, drop_at}
-use Rattle.std.proofs.lemmas.Bool.{cases_lt}
+use Rattle.std.proofs.Common.{◌≡◌, ℕ, ◌+◌, ◌-◌, ◌<◌, ◌≤◌, List, [], ◌∷◌, ◌++◌, length, take, drop, set, sym, ap, ◌∙◌, arith}
+use Rattle.std.proofs.lemmas.List.{append_assoc, drop_more, take_more_set, drop-set-lt, drop-drop, length-append, length-drop, length-take, get_or-take, length-take-le, take_at, drop_at}
 use Rattle.sheet.specs.Letters.{Sheet}
 use Rattle.code.specs.Meaning.{Meaning}
 use Rattle.record.specs.declared.calls.Call.{Call}
 use Rattle.record.specs.declared.calls.Call.TheVariants.{Hear}
-use Rattle.record.specs.Book.{Answer, takes, says, next, left_in, run, answers, written, served, ByTheBook}
+use Rattle.record.specs.Book.{Answer, takes, says, next, left_in, run, answers, written, served}
 use Rattle.record.specs.History.{call_at}
 use Rattle.record.proofs.Moments.{left_length, takes_fits}
 
@@ -18,16 +17,6 @@ pub record Sofar (m : Meaning) (cs : List Call) (s0 : Sheet) (slots0 : List Answ
   pub replies : take i slots ++ answers m s (drop i cs) (length bytes - at) ≡ answers m s0 cs (length bytes0)
   pub later : drop i slots ≡ drop i slots0
   pub buffers : take at bytes ++ written m s (drop i cs) (drop at bytes) ≡ written m s0 cs bytes0
-
-pub sofar_none : (m : Meaning) (cs : List Call) (s0 : Sheet) (slots0 : List Answer) (bytes0 : List ℕ) → Sofar m cs s0 slots0 bytes0 0 0 s0 slots0 bytes0
-sofar_none m cs s0 slots0 bytes0 = record {
-  within = omega arith;
-  long = refl;
-  book = refl;
-  replies = ap (answers m s0 cs) (let e : length bytes0 - 0 ≡ length bytes0 = omega arith in e);
-  later = refl;
-  buffers = refl;
-}
 
 -- what one call did: its answer is in slot i, and its buffer is the bytes from `at` to `end`
 pub record Turn (m : Meaning) (s : Sheet) (c : Call) (i at end : ℕ) (slots : List Answer) (bytes : List ℕ) (s' : Sheet) (slots' : List Answer) (bytes' : List ℕ) : Type 0 where
@@ -83,23 +72,4 @@ sofar_more calls {m} {s0} {slots0} {bytes0} {i} {at} {s} {slots} {bytes} {end} {
           ∙ append_assoc (take at bytes) part _
           ∙ ap (λ x. take at bytes ++ written m s x (drop at bytes)) (sym split)
           ∙ so.buffers;
-    }
-
--- all of them
-pub sofar_all : (calls : List Call) {m : Meaning} {s0 : Sheet} {slots0 : List Answer} {bytes0 : List ℕ} {i at : ℕ} {s : Sheet} {slots : List Answer} {bytes : List ℕ}
-    → Sofar m (served calls slots0) s0 slots0 bytes0 i at s slots bytes → i ≡ min (length calls) (length slots0) → ByTheBook m s0 calls slots0 bytes0 s slots bytes
-sofar_all calls {m} {s0} {slots0} {bytes0} {i} {at} {s} {slots} {bytes} so ei =
-    let cs = served calls slots0 in
-    let none : drop i cs ≡ [] = drop_all i cs (let e = length-take (length slots0) calls in omega arith) in
-    let rest : drop i slots0 ≡ drop (length calls) slots0 =
-    ⊎_elim
-    (λ lt. drop_all i slots0 (omega arith) ∙ sym (drop_all (length calls) slots0 (omega arith)))
-    (λ le. ap (λ x. drop x slots0) (let e : i ≡ length calls = omega arith in e))
-    (cases_lt (length slots0) (length calls)) in
-    record {
-      letters = sym (ap (run m s) none) ∙ so.book;
-      replies =
-          sym (take-append-drop i slots) ∙ ap (λ x. take i slots ++ x) (so.later ∙ rest)
-          ∙ ap (λ x. x ++ drop (length calls) slots0) (sym (append-nil (take i slots)) ∙ ap (λ x. take i slots ++ answers m s x (length bytes - at)) (sym none) ∙ so.replies);
-      buffers = sym (take-append-drop at bytes) ∙ ap (λ x. take at bytes ++ written m s x (drop at bytes)) (sym none) ∙ so.buffers;
     }

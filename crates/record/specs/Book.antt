@@ -1,5 +1,5 @@
 -- The plain book of a code: one set of letters for each place, by the calls' arguments alone.
-use Rattle.std.specs.Prelude.{◌≡◌, ℕ, ◌-◌, min, cond, List, [], ◌∷◌, ◌++◌, length, take, drop, replicate, Ok, Err, Result, ◌==◌, nat_lt, slice_index_or, slice_set}
+use Rattle.std.specs.Prelude.{◌≡◌, ℕ, ◌-◌, min, if◌then◌else◌, List, [], ◌∷◌, ◌++◌, length, take, drop, replicate, Ok, Err, Result, ◌==◌, nat_lt, slice_index_or, slice_set}
 use Rattle.fault.specs.declared.Fault.{Fault}
 use Rattle.fault.specs.declared.Fault.TheVariants.{Place, Letter, Empty}
 use Rattle.sheet.specs.Letters.{Letters, Sheet, none, join, size}
@@ -22,17 +22,17 @@ at s p = slice_index_or s p none
 
 -- hear: PLACE, then LETTER; else the letter joins, and the answer is how many then stand
 abbrev pub hear_says : Meaning → Sheet → ℕ → ℕ → Answer
-hear_says m s p l = cond (nat_lt p m.n) (cond (nat_lt l m.q) (Ok (size (join l (at s p)))) (Err Letter)) (Err Place)
+hear_says m s p l = if nat_lt p m.n then (if nat_lt l m.q then Ok (size (join l (at s p))) else Err Letter) else Err Place
 
 abbrev pub heard : Meaning → Sheet → ℕ → ℕ → Sheet
-heard m s p l = cond (nat_lt p m.n) (cond (nat_lt l m.q) (slice_set s p (join l (at s p))) s) s
+heard m s p l = if nat_lt p m.n then (if nat_lt l m.q then slice_set s p (join l (at s p)) else s) else s
 
 -- strike: PLACE, then EMPTY; else the answer is how many stood, and none is left
 abbrev pub strike_says : Meaning → Sheet → ℕ → Answer
-strike_says m s p = cond (nat_lt p m.n) (cond (size (at s p) == 0) (Err Empty) (Ok (size (at s p)))) (Err Place)
+strike_says m s p = if nat_lt p m.n then (if size (at s p) == 0 then Err Empty else Ok (size (at s p))) else Err Place
 
 abbrev pub struck : Meaning → Sheet → ℕ → Sheet
-struck m s p = cond (nat_lt p m.n) (cond (size (at s p) == 0) s (slice_set s p none)) s
+struck m s p = if nat_lt p m.n then (if size (at s p) == 0 then s else slice_set s p none) else s
 
 -- how many of the bytes that are left a call takes for its buffer
 abbrev pub takes : Call → ℕ → ℕ

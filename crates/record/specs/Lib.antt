@@ -2,3 +2,4 @@ pub mod Values
 pub mod Book
 pub mod History
 pub mod Promise
+pub mod Words

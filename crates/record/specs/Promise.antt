@@ -1,5 +1,5 @@
 -- What is promised of every sequence of calls of a record, by the history of the calls alone.
-use Rattle.std.specs.Prelude.{◌≡◌, ℕ, ◌+◌, ◌-◌, ◌<◌, ◌≤◌, true, false, cond, ◌&&◌, List, length, replicate, Ok, Err, ◌≢◌, nat_le}
+use Rattle.std.specs.Prelude.{◌≡◌, ℕ, ◌+◌, ◌-◌, ◌<◌, ◌≤◌, true, false, if◌then◌else◌, ◌&&◌, List, length, replicate, Ok, Err, ◌≢◌, nat_le}
 use Rattle.fault.specs.declared.Fault.{Fault}
 use Rattle.fault.specs.declared.Fault.TheVariants.{Sheet as BadSheet}
 use Rattle.sheet.specs.Letters.{Sheet, size, weight}
@@ -36,7 +36,7 @@ pub record HoldsExactly (m : Meaning) (s : Sheet) (t count len : ℕ) (bytes : L
   pub counted : length list ≡ count
   pub laid : bytes ≡ padded len (each (λ x. x) list)
   pub rises : rising list ≡ true
-  pub holds : (x : List ℕ) → occurs x list ≡ cond (is_row m.k m.p x && nat_le t (m.nested s x)) 1 0
+  pub holds : (x : List ℕ) → occurs x list ≡ (if is_row m.k m.p x && nat_le t (m.nested s x) then 1 else 0)
 
 -- m is the Reed-Solomon code of k letters over the field F at n different points of it
 pub record IsReedSolomon (m : Meaning) (F : Field) (n k : ℕ) (points : List ℕ) : Type 0 where

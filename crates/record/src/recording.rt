@@ -1,6 +1,5 @@
 // A record: a code, and a set of letters for each of its places.
-ghost use Rattle.std.specs.Prelude.{◌≡◌, ◌≤◌, length, take};
-ghost use Rattle.sheet.specs.Standing.{sheet_of};
+ghost use Rattle.std.specs.Prelude.{◌≡◌, length};
 ghost use Rattle.code.specs.Answers.{listed, shown};
 ghost use Rattle.record.specs.Values.{code_of, letters_of};
 ghost use Rattle.record.specs.Book.{fresh, hear_says, heard, strike_says, struck, says, next, left_in};
@@ -17,23 +16,10 @@ pub struct Record<C: Code> {
     pub(crate) sheet: [Marks; MAX_PLACES],
 }
 
-// The list on the first places of a sheet, as many as the code has.
-fn list_places<C: Code>(code: &C, sheet: &[Marks], t: usize, buffer: &mut [u8]) -> Answer
-    requires made { C.made code.now }
-    requires long { (C.means code.now).n ≤ length sheet.now }
-    ensures answer { result ≡ listed (C.means code.now) (sheet_of (take (C.means code.now).n sheet.now)) t (length buffer.old) }
-    ensures buffer { buffer.new ≡ shown (C.means code.now) (sheet_of (take (C.means code.now).n sheet.now)) t (length buffer.old) }
-{
-    let n = code.places();
-    code.list(&sheet[0..n], t, buffer)
-}
-
 impl<C: Code> Record<C> {
     // A record in which no letter stands.
     pub fn new(code: C) -> Record<C>
-        requires made { C.made code }
         ensures same { result.code ≡ code }
-        ensures made { C.made result.code }
         ensures blank { letters_of C.means result ≡ fresh (C.means code) }
     {
         let blank = Marks::new();
@@ -45,8 +31,6 @@ impl<C: Code> Record<C> {
 
     // A letter is heard at a place. Answers how many letters then stand there. Refused where there is no such place, and then where there is no such letter.
     pub fn hear(&mut self, place: usize, letter: u8) -> Answer
-        requires made { C.made self.old.code }
-        ensures made { C.made self.new.code }
         ensures same { self.new.code ≡ self.old.code }
         ensures answer { result ≡ hear_says (code_of C.means self.old) (letters_of C.means self.old) place letter }
         ensures after { letters_of C.means self.new ≡ heard (code_of C.means self.old) (letters_of C.means self.old) place letter }
@@ -57,8 +41,6 @@ impl<C: Code> Record<C> {
 
     // The letters of a place are struck out. Answers how many stood there. Refused where there is no such place, and then where no letter stands.
     pub fn strike(&mut self, place: usize) -> Answer
-        requires made { C.made self.old.code }
-        ensures made { C.made self.new.code }
         ensures same { self.new.code ≡ self.old.code }
         ensures answer { result ≡ strike_says (code_of C.means self.old) (letters_of C.means self.old) place }
         ensures after { letters_of C.means self.new ≡ struck (code_of C.means self.old) (letters_of C.means self.old) place }
@@ -69,17 +51,15 @@ impl<C: Code> Record<C> {
 
     // Lists by the code on the letters that stand. Refused, it leaves the buffer zero.
     pub fn list(&self, t: usize, buffer: &mut [u8]) -> Answer
-        requires made { C.made self.now.code }
         ensures answer { result ≡ listed (code_of C.means self.now) (letters_of C.means self.now) t (length buffer.old) }
         ensures buffer { buffer.new ≡ shown (code_of C.means self.now) (letters_of C.means self.now) t (length buffer.old) }
     {
-        list_places(&self.code, &self.sheet, t, buffer)
+        let n = self.code.places();
+        self.code.list(&self.sheet[0..n], t, buffer)
     }
 
     // One call that is given as a value, with its buffer. Hear and strike leave the buffer as it is.
     pub fn serve(&mut self, call: Call, buffer: &mut [u8]) -> Answer
-        requires made { C.made self.old.code }
-        ensures made { C.made self.new.code }
         ensures same { self.new.code ≡ self.old.code }
         ensures answer { result ≡ says (code_of C.means self.old) (letters_of C.means self.old) call (length buffer.old) }
         ensures after { letters_of C.means self.new ≡ next (code_of C.means self.old) (letters_of C.means self.old) call }
@@ -88,7 +68,7 @@ impl<C: Code> Record<C> {
         match call {
             Call::Hear { place, letter } => self.hear(place, letter),
             Call::Strike { place } => self.strike(place),
-            Call::List { t, room: _ } => self.list(t, buffer),
+            Call::List { t, .. } => self.list(t, buffer),
         }
     }
 }

@@ -35,7 +35,6 @@ impl<C: Code> Record<C> {
         end: usize,
         buffers: &mut [u8],
     )
-        requires made { C.made self.old.code }
         requires slot { i < length answers.old }
         requires begin { at ≤ end }
         requires end { end ≤ length buffers.old }
@@ -49,11 +48,11 @@ impl<C: Code> Record<C> {
 
     // All the calls that have a slot for their answer. Each list has the next of the bytes for its buffer.
     fn serve_all(&mut self, calls: &[Call], answers: &mut [Answer], buffers: &mut [u8])
-        requires made { C.made self.old.code }
         ensures same { self.new.code ≡ self.old.code }
         ensures book { ByTheBook (code_of C.means self.old) (letters_of C.means self.old) calls.now answers.old buffers.old (letters_of C.means self.new) answers.new buffers.new }
     {
         let mut at = 0;
+        // By index: what is written through an iterator is not known to a proof afterwards.
         for i in 0..count_served(calls, answers) {
             let end = end_of(calls[i], at, buffers.len());
             self.serve_into(calls[i], i, answers, at, end, buffers);
@@ -70,9 +69,7 @@ pub fn replay<C: Code>(
     answers: &mut [Answer],
     buffers: &mut [u8],
 ) -> Record<C>
-    requires made { C.made code }
     ensures same { result.code ≡ code }
-    ensures made { C.made result.code }
     ensures book { ByTheBook (C.means code) (fresh (C.means code)) calls.now answers.old buffers.old (letters_of C.means result) answers.new buffers.new }
     ensures promise { Promise (C.means code) (served calls.now answers.old) answers.new (length buffers.old) buffers.new (letters_of C.means result) }
 {

@@ -1,7 +1,7 @@
 -- What a fitting holds after it was offered the pairs of a sheet, place after place.
-use Rattle.std.proofs.Common.{◌≡◌, ℕ, zero, suc, ◌+◌, ◌<◌, ◌≤◌, Bool, true, false, cond, ◌&&◌, ◌||◌, eqb, ltb, ◌⊎◌, List, [], ◌∷◌, ◌++◌, map, length, get_or, take, Ok, Result, sym, refl, ap, ◌∙◌, subst, ap₂, inl, inr, ⊎_elim, arith}
+use Rattle.std.proofs.Common.{◌≡◌, ℕ, zero, suc, ◌+◌, ◌<◌, ◌≤◌, Bool, true, false, cond, ◌&&◌, eqb, ltb, List, [], ◌∷◌, ◌++◌, map, length, get_or, take, Ok, Result, sym, refl, ap, ◌∙◌, subst, ap₂, ⊎_elim, arith}
 use Rattle.std.proofs.lemmas.List.{append-nil, append_assoc, length-append, length-map, length-take, map-append, take_more}
-use Rattle.std.proofs.lemmas.Bool.{cond-true, cond-false, and_from, and_parts, lt-ltb, eqb-true, cases_Bool, true≢false}
+use Rattle.std.proofs.lemmas.Bool.{cond-true, cond-false, and_from, and_parts, lt-ltb, eqb-true, cases_Bool, or_cases, true≢false}
 use Rattle.fault.specs.declared.Fault.{Fault}
 use Rattle.algebra.specs.Field.{Meaning as Field}
 use Rattle.algebra.specs.Lists.{Each}
@@ -17,9 +17,6 @@ pub fed_append : (F : Field) (limit : ℕ) (held : List ℕ × List ℕ) (ps rs 
 fed_append F limit held [] rs = refl
 fed_append F limit held (p ∷ ps) rs = fed_append F limit (offered F limit held p) ps rs
 
-at_append : (x : ℕ) (ls ms : List ℕ) → at_point x (ls ++ ms) ≡ at_point x ls ++ at_point x ms
-at_append x ls ms = map-append (λ l. (x, l)) ls ms
-
 -- one letter more
 pub fed_letter : (F : Field) (limit x : ℕ) (S : Letters) (l : ℕ) (b : Bool) (start now next : List ℕ × List ℕ) → now ≡ fed F limit start (at_point x (letters S l))
     → b ≡ S l → next ≡ fed F limit now (at_point x (cond b (l ∷ []) [])) → next ≡ fed F limit start (at_point x (letters S (l + 1)))
@@ -27,12 +24,8 @@ unfolding letters
 fed_letter F limit x S l b start now next e eb h =
     h ∙ ap₂ (λ u v. fed F limit u (at_point x (cond v (l ∷ []) []))) e eb
     ∙ sym (fed_append F limit start (at_point x (letters S l)) (at_point x (cond (S l) (l ∷ []) [])))
-    ∙ ap (fed F limit start) (sym (at_append x (letters S l) (cond (S l) (l ∷ []) [])))
+    ∙ ap (fed F limit start) (sym (map-append (λ l. (x, l)) (letters S l) (cond (S l) (l ∷ []) [])))
     ∙ ap (λ z. fed F limit start (at_point x (letters S z))) (let z : suc l ≡ l + 1 = omega arith in z)
-
-pub no_letters : (S : Letters) → letters S 0 ≡ []
-unfolding letters
-no_letters S = refl
 
 -- one place more
 pairs_more : (a i : ℕ) (s : Sheet) (S : Letters) → length s ≡ i → pairs_of (span a (suc i)) (s ++ S ∷ []) ≡ pairs_of (span a i) s ++ at_point (a + i) (letters S 256)
@@ -44,10 +37,6 @@ pairs_more a (suc i) (T ∷ s) S e =
     ap (λ z. at_point a (letters T 256) ++ z) (pairs_more (suc a) i s S (omega arith))
     ∙ sym (append_assoc (at_point a (letters T 256)) (pairs_of (span (suc a) i) s) _)
     ∙ ap (λ z. (at_point a (letters T 256) ++ pairs_of (span (suc a) i) s) ++ at_point z (letters S 256)) (let z : suc a + i ≡ a + suc i = omega arith in z)
-
-pub no_places : pairs_of (span 0 0) [] ≡ []
-unfolding pairs_of span
-no_places = refl
 
 pub fed_place : (F : Field) (limit : ℕ) (ms : List Marks) (i : ℕ) (d : Marks) (start now next : List ℕ × List ℕ) → i < length ms
     → now ≡ fed F limit start (pairs_of (span 0 i) (map stands (take i ms))) → next ≡ fed F limit now (at_point i (letters (stands (get_or ms i d)) 256))
@@ -72,10 +61,6 @@ among_found (a ∷ xs) (b ∷ ys) x y e =
     (λ h. let p = and_parts (eqb a x) (eqb b y) h in (0, omega arith, eqb-true a x p.0, eqb-true b y p.1))
     (λ h. let r = among_found xs ys x y h in (suc r.0, (let z = r.1 in omega arith), r.2, r.3))
     (or_cases (eqb a x && eqb b y) (among xs ys x y) e)
-  where
-    or_cases : (a b : Bool) → (a || b) ≡ true → (a ≡ true) ⊎ (b ≡ true)
-    or_cases true b e = inl refl
-    or_cases false b e = inr e
 
 module _ (F : Field) (limit : ℕ) (small : ℕ → Type 0) (fits : (x : ℕ) → small x → x < 64) where
   -- different pairs, no more than the limit, are all taken

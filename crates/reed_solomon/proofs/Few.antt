@@ -1,5 +1,5 @@
 -- At most fifteen messages are listed in reach.
-use Rattle.std.proofs.Common.{◌≡◌, ℕ, zero, suc, ◌-◌, ◌*◌, ◌<◌, ◌≤◌, Bool, true, false, cond, ◌&&◌, eqb, ltb, leb, List, [], ◌∷◌, length, is_some, Some, None, Ok, Err, filter, Option, sym, refl, ap, ◌∙◌, subst, suc-mul, arith}
+use Rattle.std.proofs.Common.{◌≡◌, ℕ, zero, suc, ◌-◌, ◌*◌, ◌<◌, ◌≤◌, Bool, true, false, cond, ◌&&◌, eqb, ltb, leb, List, [], ◌∷◌, length, is_some, Some, None, Ok, Err, Option, sym, refl, ap, ◌∙◌, subst, suc-mul, arith}
 use Rattle.fault.specs.declared.Fault.{Fault}
 use Rattle.std.proofs.lemmas.List.{length-map}
 use Rattle.std.proofs.lemmas.Bool.{and_parts, and_right, or_from, eqb-true, ltb-true, leb-true, le-ltb, true≢false}
@@ -21,7 +21,7 @@ use Rattle.code.proofs.Once.{listing_rises}
 use Rattle.reed_solomon.specs.ReedSolomon.{rs_at, rs_meaning, Shape, Bounds, Points}
 use Rattle.reed_solomon.specs.Gathered.{pairs_of, points_of, letters_of}
 use Rattle.reed_solomon.specs.Few.{FewListed, Few}
-use Rattle.reed_solomon.specs.Distance.{every_each, spanned}
+use Rattle.reed_solomon.specs.Distance.{every_each, passed, spanned}
 use Rattle.reed_solomon.proofs.Pairing.{pairs_count, sheet_pairs, score_is}
 
 -- a rising list has no message twice
@@ -46,13 +46,6 @@ rows_coded F k (x ∷ l) e =
     let p = and_parts (is_row k F.size x) (every (is_row k F.size) l) e in
     ((every_each F.size x (row_every k F.size x p.0), row_length k F.size x p.0), rows_coded F k l p.1)
 
--- what is kept passes
-kept_pass : (f : List ℕ → Bool) (P : List ℕ → Type 0) → ((x : List ℕ) → f x ≡ true → P x) → (l : List (List ℕ)) → Each P (filter f l)
-kept_pass f P h [] = tt
-kept_pass f P h (x ∷ l) =
-    elim (f x) as (λ b. (b ≡ true → P x) → Each P (cond b (x ∷ filter f l) (filter f l)))
-    [ true ↦ (λ p. (p refl, kept_pass f P h l)) | false ↦ (λ p. kept_pass f P h l) ] (h x)
-
 positive : (r t : ℕ) → 1 ≤ r → 1 ≤ t → 1 ≤ r * t
 positive zero t a b = absurd (omega arith)
 positive (suc r) t a b = let e = suc-mul r t in omega arith
@@ -69,7 +62,7 @@ module _ (F : Field) (L : Laws F) (n k : ℕ) (fit : Bounds n k) (ps : List ℕ)
   scored : Each (λ f. t ≤ score F (points_of (pairs_of ps s)) (letters_of (pairs_of ps s)) f) (listing (rs_at limits F n ps k) s t)
   unfolding listing
   scored =
-      kept_pass (λ x. leb t ((rs_at limits F n ps k).score s x)) (λ f. t ≤ score F (points_of (pairs_of ps s)) (letters_of (pairs_of ps s)) f)
+      passed (λ x. leb t ((rs_at limits F n ps k).score s x)) (λ f. t ≤ score F (points_of (pairs_of ps s)) (letters_of (pairs_of ps s)) f)
       (λ x e. subst (λ z. t ≤ z) (sym (score_is F L x ps s)) (leb-true t _ e)) (messages F.size k)
 
   short : (r : ℕ) → 1 ≤ r * t → suits limits (k - 1) t (weight s) r ≡ true → length (listing (rs_at limits F n ps k) s t) ≤ limits.power

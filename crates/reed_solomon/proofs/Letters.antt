@@ -3,6 +3,7 @@ use Rattle.std.proofs.Common.{◌≡◌, ℕ, zero, suc, ◌+◌, ◌<◌, Bool,
 use Rattle.std.proofs.lemmas.List.{length-append}
 use Rattle.std.proofs.lemmas.Bool.{and_parts, ltb-true}
 use Rattle.algebra.specs.Lists.{Each, Distinct}
+use Rattle.algebra.proofs.Lists.{each_map}
 use Rattle.sheet.specs.Letters.{Letters, tally}
 use Rattle.code.specs.Meaning.{below}
 use Rattle.reed_solomon.specs.Gathered.{letters}
@@ -10,10 +11,6 @@ use Rattle.reed_solomon.specs.Gathered.{letters}
 pub each_append : {A : Type 0} (P : A → Type 0) (xs ys : List A) → Each P xs → Each P ys → Each P (xs ++ ys)
 each_append P [] ys a b = b
 each_append P (x ∷ xs) ys a b = (a.0, each_append P xs ys a.1 b)
-
-pub each_weak : {A : Type 0} (P Q : A → Type 0) → ((x : A) → P x → Q x) → (xs : List A) → Each P xs → Each Q xs
-each_weak P Q h [] e = tt
-each_weak P Q h (x ∷ xs) e = (h x e.0, each_weak P Q h xs e.1)
 
 pub distinct_append : {A : Type 0} (xs ys : List A) → Distinct xs → Distinct ys → Each (λ x. Each (λ y. ¬ (x ≡ y)) ys) xs → Distinct (xs ++ ys)
 distinct_append [] ys a b h = b
@@ -45,7 +42,7 @@ unfolding letters
 letters_below S zero = tt
 letters_below S (suc n) =
     each_append (λ l. l < suc n) (letters S n) (cond (S n) (n ∷ []) [])
-    (each_weak (λ l. l < n) (λ l. l < suc n) (λ l h. omega arith) (letters S n) (letters_below S n))
+    (each_map (λ l h. omega arith) (letters S n) (letters_below S n))
     (each_if (λ l. l < suc n) (S n) n (λ _. omega arith))
 
 pub letters_low : (q : ℕ) (S : Letters) (n : ℕ) → below q n S ≡ true → Each (λ l. l < q) (letters S n)
@@ -61,5 +58,4 @@ unfolding letters
 letters_apart S zero = tt
 letters_apart S (suc n) =
     distinct_append (letters S n) (cond (S n) (n ∷ []) []) (letters_apart S n) (distinct_if (S n) n)
-    (each_weak (λ l. l < n) (λ l. Each (λ y. ¬ (l ≡ y)) (cond (S n) (n ∷ []) []))
-    (λ l h. each_if (λ y. ¬ (l ≡ y)) (S n) n (λ _ e. omega arith)) (letters S n) (letters_below S n))
+    (each_map (λ l h. each_if (λ y. ¬ (l ≡ y)) (S n) n (λ _ e. omega arith)) (letters S n) (letters_below S n))

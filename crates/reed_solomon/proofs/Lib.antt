@@ -2,4 +2,4 @@ pub mod Letters
 pub mod Pairing
 pub mod Few
 pub mod Feeding
-pub mod Recovering
+pub mod Recovered

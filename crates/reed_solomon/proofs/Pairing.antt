@@ -1,6 +1,6 @@
 -- The pairs of a sheet: how many they are, that no two are equal, and how a polynomial scores on them.
 use Rattle.std.proofs.Common.{◌≡◌, ℕ, zero, suc, ◌+◌, ◌<◌, ◌≤◌, Bool, true, false, cond, eqb, List, [], ◌∷◌, ◌++◌, length, get_or, sym, refl, ap, ◌∙◌, subst, ap₂, ⊎_elim, arith}
-use Rattle.std.proofs.lemmas.List.{length-append, length-map, get_or-map}
+use Rattle.std.proofs.lemmas.List.{length-append, length-map, get_or-map, map-append}
 use Rattle.std.proofs.lemmas.List.Sums.{sum_by-cons}
 use Rattle.std.proofs.lemmas.Bool.{and_parts, eq-eqb, ne_eqb, cases_eq}
 use Rattle.algebra.specs.Field.{Meaning as Field, Laws}
@@ -134,10 +134,6 @@ module _ (F : Field) (L : Laws F) (g : List ℕ) where
   count_append [] rs = let z : count rs ≡ 0 + count rs = omega arith in z
   count_append (p ∷ ps) rs = let r = count_append ps rs in let z : one p + count (ps ++ rs) ≡ one p + count ps + count rs = omega arith in z
 
-  map_append : (x : ℕ) (ls ms : List ℕ) → at_point x (ls ++ ms) ≡ at_point x ls ++ at_point x ms
-  map_append x [] ms = refl
-  map_append x (l ∷ ls) ms = ap (λ z. (x, l) ∷ z) (map_append x ls ms)
-
   count_if : (b : Bool) (x n : ℕ) → count (at_point x (cond b (n ∷ []) [])) ≡ cond b (one (x, n)) 0
   unfolding count
   count_if true x n = let z : one (x, n) + 0 ≡ one (x, n) = omega arith in z
@@ -149,7 +145,7 @@ module _ (F : Field) (L : Laws F) (g : List ℕ) where
 
   count_more : (x : ℕ) (S : Letters) (n : ℕ) → count (at_point x (letters S (suc n))) ≡ count (at_point x (letters S n)) + cond (S n) (one (x, n)) 0
   unfolding letters
-  count_more x S n = ap count (map_append x (letters S n) (cond (S n) (n ∷ []) [])) ∙ count_append (at_point x (letters S n)) _ ∙ ap (λ z. count (at_point x (letters S n)) + z) (count_if (S n) x n)
+  count_more x S n = ap count (map-append (λ l. (x, l)) (letters S n) (cond (S n) (n ∷ []) [])) ∙ count_append (at_point x (letters S n)) _ ∙ ap (λ z. count (at_point x (letters S n)) + z) (count_if (S n) x n)
 
   -- below the value no letter is hit, and past it just the value, where it stands
   before : (x : ℕ) (S : Letters) (n : ℕ) → n ≤ value F g x → count (at_point x (letters S n)) ≡ 0

@@ -29,7 +29,8 @@ apart_kept f [] h = tt
 apart_kept f (x ∷ xs) (h, hs) =
     elim (f x) as (λ b. Distinct (cond b (x ∷ filter f xs) (filter f xs))) [ true ↦ (each_kept (λ y. ¬ (x ≡ y)) f xs h, apart_kept f xs hs) | false ↦ apart_kept f xs hs ]
 
-passed : (f : ℕ → Bool) (P : ℕ → Type 0) → ((x : ℕ) → f x ≡ true → P x) → (xs : List ℕ) → Each P (filter f xs)
+-- and what is kept passes
+pub passed : {A : Type 0} (f : A → Bool) (P : A → Type 0) → ((x : A) → f x ≡ true → P x) → (xs : List A) → Each P (filter f xs)
 passed f P h [] = tt
 passed f P h (x ∷ xs) =
     elim (f x) as (λ b. (b ≡ true → P x) → Each P (cond b (x ∷ filter f xs) (filter f xs))) [ true ↦ (λ g. (g refl, passed f P h xs)) | false ↦ (λ g. passed f P h xs) ] (h x)

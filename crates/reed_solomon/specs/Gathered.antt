@@ -1,5 +1,5 @@
 -- The pairs of a sheet: each standing letter with the point of its place.
-use Rattle.std.specs.Prelude.{ℕ, zero, suc, cond, List, [], ◌∷◌, ◌++◌, map}
+use Rattle.std.specs.Prelude.{ℕ, zero, suc, if◌then◌else◌, List, [], ◌∷◌, ◌++◌, map}
 use Rattle.sheet.specs.Letters.{Letters, Sheet}
 use Rattle.algebra.specs.Field.{Meaning as Field}
 use Rattle.interpolation.specs.Fitting.{taken, kept}
@@ -7,7 +7,7 @@ use Rattle.interpolation.specs.Fitting.{taken, kept}
 -- the letters below n that stand, in rising order
 unfoldable pub letters : Letters → ℕ → List ℕ
 letters S zero = []
-letters S (suc n) = letters S n ++ cond (S n) (n ∷ []) []
+letters S (suc n) = letters S n ++ (if S n then n ∷ [] else [])
 
 -- with the point x
 abbrev pub at_point : ℕ → List ℕ → List (ℕ × ℕ)

@@ -1,6 +1,7 @@
 pub mod Least
 pub mod ReedSolomon
 pub mod Gathered
+pub mod Offered
 pub mod Few
 pub mod Values
 pub mod Law

@@ -1,5 +1,5 @@
 -- What a Reed-Solomon code means.
-use Rattle.std.specs.Prelude.{◌≡◌, ℕ, ◌-◌, ◌<◌, ◌≤◌, Bool, cond, ◌&&◌, List, map, length, nat_le}
+use Rattle.std.specs.Prelude.{◌≡◌, ℕ, ◌-◌, ◌<◌, ◌≤◌, Bool, if◌then◌else◌, ◌&&◌, List, map, length, nat_le}
 use Rattle.algebra.specs.Lists.{Each, Distinct}
 use Rattle.algebra.specs.Field.{Meaning as Field}
 use Rattle.algebra.specs.Polynomial.{value}
@@ -28,7 +28,7 @@ rs_at L F n points k = record {
   word = word_at F points;
   score = score_at F points;
   nested = score_at F points;
-  reach = λ s t. cond (in_reach L (k - 1) t (weight s)) within (beyond 0 0);
+  reach = λ s t. if in_reach L (k - 1) t (weight s) then within else beyond 0 0;
   top = n;
   least = least_reach L n k;
 }

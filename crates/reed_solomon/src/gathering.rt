@@ -2,49 +2,37 @@
 ghost use Rattle.std.specs.Prelude.{◌≡◌, ◌≤◌, [], ◌∷◌, length, if◌then◌else◌};
 ghost use Rattle.sheet.specs.Standing.{stands, sheet_of};
 ghost use Rattle.code.specs.Messages.{span};
-ghost use Rattle.interpolation.specs.Fitting.{points_of, values_of, Gathered};
-ghost use Rattle.reed_solomon.specs.Gathered.{letters, at_point, pairs_of, fed};
+ghost use Rattle.reed_solomon.specs.Gathered.{letters, at_point, pairs_of};
+ghost use Rattle.reed_solomon.specs.Offered.{Offers};
 
 use field::Field;
 use interpolation::Gathering;
 use sheet::Marks;
 
 // Offers the pair where the letter stands.
-fn offer<F: Field>(fitting: &mut Gathering<F>, point: u8, letter: u8, standing: bool)
-    requires made { Gathered (F.means fitting.old.field.now) fitting.old.plan.limit (points_of fitting.old.pairs) (values_of fitting.old.pairs) }
-    ensures held { (points_of fitting.new.pairs, values_of fitting.new.pairs) ≡ fed (F.means fitting.old.field.now) fitting.old.plan.limit (points_of fitting.old.pairs, values_of fitting.old.pairs) (at_point point (if standing then letter ∷ [] else [])) }
-    ensures plan { fitting.new.plan ≡ fitting.old.plan }
-    ensures field { fitting.new.field.now ≡ fitting.old.field.now }
-    ensures made { Gathered (F.means fitting.new.field.now) fitting.new.plan.limit (points_of fitting.new.pairs) (values_of fitting.new.pairs) }
+fn offer<F: Field>(fitting: &mut Gathering<F>, point: u8, marks: Marks, letter: u8)
+    ensures { Offers (at_point point (if stands marks letter then letter ∷ [] else [])) fitting.old fitting.new }
 {
-    if standing {
+    if marks.contains(letter) {
         let _ = fitting.take(point, letter);
     }
 }
 
 // Offers the letters of one place, in rising order.
 fn offer_place<F: Field>(fitting: &mut Gathering<F>, point: u8, marks: Marks)
-    requires made { Gathered (F.means fitting.old.field.now) fitting.old.plan.limit (points_of fitting.old.pairs) (values_of fitting.old.pairs) }
-    ensures held { (points_of fitting.new.pairs, values_of fitting.new.pairs) ≡ fed (F.means fitting.old.field.now) fitting.old.plan.limit (points_of fitting.old.pairs, values_of fitting.old.pairs) (at_point point (letters (stands marks) 256)) }
-    ensures plan { fitting.new.plan ≡ fitting.old.plan }
-    ensures field { fitting.new.field.now ≡ fitting.old.field.now }
-    ensures made { Gathered (F.means fitting.new.field.now) fitting.new.plan.limit (points_of fitting.new.pairs) (values_of fitting.new.pairs) }
+    ensures { Offers (at_point point (letters (stands marks) 256)) fitting.old fitting.new }
 {
     for l in 0..256u16 {
-        offer(fitting, point, l as u8, marks.contains(l as u8));
+        offer(fitting, point, marks, l as u8);
     }
 }
 
 // Offers the letters of every place, whose point is the element with the place's code.
 pub(crate) fn offer_sheet<F: Field>(fitting: &mut Gathering<F>, sheet: &[Marks])
-    requires made { Gathered (F.means fitting.old.field.now) fitting.old.plan.limit (points_of fitting.old.pairs) (values_of fitting.old.pairs) }
-    requires short { length sheet.now ≤ 256 }
-    ensures held { (points_of fitting.new.pairs, values_of fitting.new.pairs) ≡ fed (F.means fitting.old.field.now) fitting.old.plan.limit (points_of fitting.old.pairs, values_of fitting.old.pairs) (pairs_of (span 0 (length sheet.now)) (sheet_of sheet.now)) }
-    ensures plan { fitting.new.plan ≡ fitting.old.plan }
-    ensures field { fitting.new.field.now ≡ fitting.old.field.now }
-    ensures made { Gathered (F.means fitting.new.field.now) fitting.new.plan.limit (points_of fitting.new.pairs) (values_of fitting.new.pairs) }
+    requires { length sheet.now ≤ 256 }
+    ensures { Offers (pairs_of (span 0 (length sheet.now)) (sheet_of sheet.now)) fitting.old fitting.new }
 {
-    for i in 0..sheet.len() {
-        offer_place(fitting, i as u8, sheet[i]);
+    for (i, marks) in sheet.iter().enumerate() {
+        offer_place(fitting, i as u8, *marks);
     }
 }

@@ -6,6 +6,7 @@ mod evaluation;
 mod gathering;
 mod laws;
 mod listing;
+mod recovering;
 
 pub use evaluation::ReedSolomon;
 pub use laws::{lists_are_few, reed_solomon_stands};

@@ -3,11 +3,11 @@ ghost use Rattle.std.specs.Prelude.{◌≡◌, length};
 ghost use Rattle.sheet.specs.Standing.{sheet_of};
 ghost use Rattle.code.specs.Answers.{listed, shown};
 ghost use Rattle.reed_solomon.specs.Few.{Few};
-ghost use Rattle.reed_solomon.specs.Values.{meaning_of, Made};
+ghost use Rattle.reed_solomon.specs.Values.{meaning_of};
 ghost use Rattle.reed_solomon.specs.Law.{lawful_at_limits};
 
 use crate::evaluation::{ReedSolomon, least_of, write_values};
-use code::{Code, is_row};
+use code::Code;
 use fault::Fault;
 use field::Field;
 use sheet::Marks;
@@ -15,15 +15,13 @@ use sheet::Marks;
 impl<F: Field> Code for ReedSolomon<F> {
     const FAMILY: u8 = F::FAMILY;
 
-    ghost means = { λ c. meaning_of F.means c };
+    ghost FAMILY = { F.FAMILY };
 
-    ghost made = { λ c. Made F.means c };
+    ghost means = { λ c. meaning_of c };
 
-    ghost lawful = { λ c made. lawful_at_limits _ (F.lawful c.field) c.n c.k made };
+    ghost family = { λ c. F.family c.field };
 
-    fn family_number(&self) -> u8 {
-        self.field.family_number()
-    }
+    ghost lawful = { λ c. lawful_at_limits _ (F.lawful c.field) c.n c.k c.kept };
 
     fn letters(&self) -> usize {
         self.field.size() as usize
@@ -51,31 +49,19 @@ impl<F: Field> Code for ReedSolomon<F> {
 
     fn encode(&self, message: &[u8], word: &mut [u8]) -> Result<(), Fault> {
         word.fill(0);
-        if word.len() != self.n {
-            return Err(Fault::Length);
-        }
-        if !is_row(message, self.k, self.field.size() as usize) {
-            return Err(Fault::Message);
-        }
+        self.check_word(message, word.len())?;
         write_values(&self.field, message, word);
         Ok(())
     }
 
     // As every code lists, and never more than fifteen.
     fn list(&self, sheet: &[Marks], t: usize, buf: &mut [u8]) -> Result<usize, Fault>
-        requires made { Made F.means self.now }
-        ensures answer { result ≡ listed (meaning_of F.means self.now) (sheet_of sheet.now) t (length buf.old) }
-        ensures buffer { buf.new ≡ shown (meaning_of F.means self.now) (sheet_of sheet.now) t (length buf.old) }
+        ensures answer { result ≡ listed (meaning_of self.now) (sheet_of sheet.now) t (length buf.old) }
+        ensures buffer { buf.new ≡ shown (meaning_of self.now) (sheet_of sheet.now) t (length buf.old) }
         ensures few { Few result }
     {
-        if !self.has_sheet(sheet) {
-            buf.fill(0);
-            return Err(Fault::Sheet);
-        }
-        if !self.has_agreement(t) {
-            buf.fill(0);
-            return Err(Fault::Agreement);
-        }
+        buf.fill(0);
+        self.check_list(sheet, t)?;
         self.recover(sheet, t, buf)
     }
 }

@@ -1,15 +1,13 @@
 -- The number of letters, by the ones of the words.
-use Rattle.std.proofs.Common.{◌≡◌, ℕ, zero, suc, ◌+◌, ◌*◌, ◌/◌, ◌%◌, ◌^◌, ◌<◌, ◌≤◌, Bool, true, false, cond, eqb, List, [], ◌∷◌, map, length, get_or, take, sum_by, sym, refl, ap, ◌∙◌, add-zero, add_assoc, add-suc, mod-lt, mod-eq_of_lt, one-add, arith, lit<}
+use Rattle.std.proofs.Common.{◌≡◌, ℕ, zero, suc, ◌+◌, ◌*◌, ◌/◌, ◌%◌, ◌^◌, ◌<◌, ◌≤◌, Bool, true, false, cond, eqb, List, [], ◌∷◌, length, get_or, sym, refl, ap, ◌∙◌, add-zero, add_assoc, add-suc, mod-lt, mod-eq_of_lt, one-add, arith, lit<}
 use native.Mathlib.Nat.{mod-one}
 use lib.Count.{ones, ones_cat}
 use lib.Arith.{digits_div, digits_mod}
 use lib.Pow.{mod-pow-add}
 use Rattle.std.proofs.lemmas.Nat.{pow_pos}
 use Rattle.sheet.specs.Letters.{Letters, Sheet, tally, size, weight}
-use Rattle.std.proofs.lemmas.List.{take_more, map-append}
-use Rattle.std.proofs.lemmas.List.Sums.{sum_by_push, sum_by-cons}
-use Rattle.sheet.specs.Standing.{marked, stands, total}
-use Rattle.sheet.specs.declared.marks.Marks.{Marks}
+use Rattle.std.proofs.lemmas.List.Sums.{sum_by-cons}
+use Rattle.sheet.specs.Standing.{marked}
 
 ones_bit : (a : ℕ) → a < 2 → ones a ≡ cond (eqb a 1) 1 0
 unfolding ones
@@ -71,13 +69,6 @@ tally_le s (suc n) = let h = tally_le s n in let c = one_at_most (s n) in omega 
 pub size_le : (s : Letters) → size s ≤ 256
 unfolding size
 size_le s = tally_le s 256
-
--- the load of one place more
-pub total_more : (ms : List Marks) (i : ℕ) (d : Marks) → i < length ms → total (take (i + 1) ms) ≡ total (take i ms) + size (stands (get_or ms i d))
-total_more ms i d h =
-    ap total (take_more ms i d h)
-    ∙ ap (sum_by size) (map-append stands (take i ms) (get_or ms i d ∷ []))
-    ∙ sum_by_push size (map stands (take i ms)) (stands (get_or ms i d))
 
 -- no place has more than 256 letters
 pub weight_le : (s : Sheet) → weight s ≤ 256 * length s

@@ -1,5 +1,5 @@
 -- Sets of letters, as tests on a letter, and sheets.
-use Rattle.std.specs.Prelude.{ℕ, zero, suc, ◌+◌, Bool, false, cond, ◌||◌, List, sum_by, ◌==◌}
+use Rattle.std.specs.Prelude.{ℕ, zero, suc, ◌+◌, Bool, false, if◌then◌else◌, ◌||◌, List, sum_by, ◌==◌}
 
 abbrev pub Letters : Type 0
 Letters = ℕ → Bool
@@ -17,7 +17,7 @@ union s u = λ k. s k || u k
 -- how many letters below n stand
 unfoldable pub tally : Letters → ℕ → ℕ
 tally s zero = 0
-tally s (suc n) = cond (s n) 1 0 + tally s n
+tally s (suc n) = (if s n then 1 else 0) + tally s n
 
 -- how many letters stand; a letter is below 256
 unfoldable pub size : Letters → ℕ

@@ -4,12 +4,9 @@ use field::PrimeField;
 use interpolation::{Gathering, open};
 use std::test::Fail;
 
-// The number of a refusal, 0 for none.
-fn number_of(answer: Result<usize, Fault>) -> u8 {
-    match answer {
-        Ok(_) => 0,
-        Err(fault) => fault.number(),
-    }
+// The answer, with the number of a refusal.
+fn numbered(answer: Result<usize, Fault>) -> Result<usize, u8> {
+    answer.map_err(|fault| fault.number())
 }
 
 #[test]
@@ -19,19 +16,18 @@ fn lines_through_three_of_five_pairs(rt: HostRuntime) -> Result<(), Fail> {
     let mut fitting = Gathering::new(&field, plan);
     assert_eq!(rt; fitting.take(0, 0)?, 1);
     assert_eq!(rt; fitting.take(1, 1)?, 2);
-    assert_eq!(rt; number_of(fitting.take(5, 0)), 5);
-    assert_eq!(rt; number_of(fitting.take(2, 9)), 6);
-    assert_eq!(rt; number_of(fitting.take(1, 1)), 25);
+    assert_eq!(rt; numbered(fitting.take(5, 0)), Err(5));
+    assert_eq!(rt; numbered(fitting.take(2, 9)), Err(6));
+    assert_eq!(rt; numbered(fitting.take(1, 1)), Err(25));
     assert_eq!(rt; fitting.take(2, 2)?, 3);
     assert_eq!(rt; fitting.take(3, 0)?, 4);
     assert_eq!(rt; fitting.take(4, 0)?, 5);
-    assert_eq!(rt; number_of(fitting.take(4, 1)), 26);
+    assert_eq!(rt; numbered(fitting.take(4, 1)), Err(26));
     let closed = fitting.close();
     assert!(rt; closed.multiplicity() >= 1);
     let mut buf = [9u8; 6];
     assert_eq!(rt; closed.walk(&mut buf)?, 2);
-    assert!(rt; buf[0] == 0 && buf[1] == 0 && buf[2] == 0 && buf[3] == 1);
-    assert!(rt; buf[4] == 0 && buf[5] == 0);
+    assert_eq!(rt; buf, [0, 0, 0, 1, 0, 0]);
     Ok(())
 }
 

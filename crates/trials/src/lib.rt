@@ -9,4 +9,8 @@ mod concatenations;
 #[cfg(test)]
 mod fitting_alone;
 #[cfg(test)]
+mod messages;
+#[cfg(test)]
 mod published;
+#[cfg(test)]
+mod sheets;

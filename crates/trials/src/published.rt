@@ -3,6 +3,7 @@ use code::Code;
 use field::PrimeField;
 use reed_solomon::ReedSolomon;
 use sheet::Marks;
+use std::alloc::{AllocError, Global};
 use std::test::Fail;
 
 const MESSAGE: [u8; 3] = [1, 2, 3];
@@ -12,14 +13,14 @@ const WORD: [u8; 7] = [1, 6, 3, 6, 1, 2, 2];
 const RECEIVED: [u8; 7] = [1, 5, 3, 6, 3, 2, 2];
 
 // The sheet with one letter a place.
-fn hear_word(word: &[u8], sheet: &mut [Marks]) {
-    for i in 0..sheet.len() {
+fn sheet_of(heap: Global, word: &[u8]) -> Result<Vec<Marks>, AllocError> {
+    let mut sheet = Vec::new(heap);
+    for letter in word {
         let mut marks = Marks::new();
-        if i < word.len() {
-            marks.insert(word[i]);
-        }
-        sheet[i] = marks;
+        marks.insert(*letter);
+        sheet.push(marks)?;
     }
+    Ok(sheet)
 }
 
 #[test]
@@ -27,17 +28,10 @@ fn two_errors_over_seven_elements(rt: HostRuntime) -> Result<(), Fail> {
     let code = ReedSolomon::new(PrimeField::new(7)?, 7, 3)?;
     let mut word = [0u8; 7];
     code.encode(&MESSAGE, &mut word)?;
-    for i in 0..7 {
-        assert_eq!(rt; word[i], WORD[i]);
-    }
-    let blank = Marks::new();
-    let mut places = [blank; 7];
-    let sheet = &mut places[0..7];
-    hear_word(&RECEIVED, sheet);
+    assert_eq!(rt; word, WORD);
+    let sheet = sheet_of(rt.alloc(), &RECEIVED)?;
     let mut buf = [9u8; 6];
-    assert_eq!(rt; code.list(sheet, 5, &mut buf)?, 1);
-    assert!(rt;
-        buf[0] == 1 && buf[1] == 2 && buf[2] == 3 && buf[3] == 0 && buf[4] == 0 && buf[5] == 0
-    );
+    assert_eq!(rt; code.list(sheet.as_slice(), 5, &mut buf)?, 1);
+    assert_eq!(rt; buf, [1, 2, 3, 0, 0, 0]);
     Ok(())
 }

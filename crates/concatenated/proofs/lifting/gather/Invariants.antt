@@ -1,8 +1,13 @@
-use Rattle.std.proofs.Common.{◌≡◌, ◌+◌}
+use Rattle.std.proofs.Common.{◌≡◌, ℕ, ◌+◌, ◌*◌, true, ltb, length}
+use Rattle.sheet.specs.Letters.{union}
 use Rattle.sheet.specs.Standing.{stands}
-use Rattle.concatenated.specs.Lifting.{gathered}
+use Rattle.code.specs.Messages.{every, number, rows}
+use Rattle.concatenated.specs.Lifted.{numbers}
 use Rattle.concatenated.proofs.lifting.gather.Given as goal
 
--- the marks are the numbers of the first j messages
-abbrev pub invariant-loop-j : goal.invariant-loop-j
-invariant-loop-j l = stands l.marks ≡ gathered (l.last + 1) l.k l.j l.found
+-- the marks, and the numbers of the n messages that are left, are the numbers of all
+abbrev pub invariant-loop-message : goal.invariant-loop-message
+invariant-loop-message l =
+    (l.message-iterator.size ≡ l.k) × ((n : ℕ) × (length l.message-iterator.rest.now ≡ n * l.k)
+    × (union (stands l.marks) (numbers (l.last + 1) (rows l.k n l.message-iterator.rest.now)) ≡ numbers (l.last + 1) (rows l.k l.count l.found))
+    × (every (λ m. ltb (number (l.last + 1) m) 256) (rows l.k n l.message-iterator.rest.now) ≡ true))

@@ -6,7 +6,6 @@ use Rattle.concatenated.proofs.words.write_blocks.Goals as goal
 
 pub write_block-requires : goal.write_block-requires
 write_block-requires g c = record {
-  made = c.requires.made;
   width = c.places-n.ensures;
   room = next_block c.places-n.result c.loop-b.b (length c.args.above.now) (length c.loop-b.word) c.loop-b-test.true
       (c.loop-b.auto.word ∙ c.requires.whole ∙ ap (λ n. length c.args.above.now * n) (sym c.places-n.ensures));
@@ -15,7 +14,7 @@ write_block-requires g c = record {
 pub loop-b-preserved : goal.loop-b-preserved
 loop-b-preserved g c =
     let mi = g.I.Code.means c.args.inner.now in
-    let ri = g.met.I.Code.lawful c.args.inner.now c.requires.made in
+    let ri = g.met.I.Code.lawful c.args.inner.now in
     let n = c.places-n.result in
     let b = c.loop-b.b in
     let word = c.loop-b.word in

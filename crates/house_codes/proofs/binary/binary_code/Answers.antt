@@ -1,12 +1,10 @@
-use Rattle.std.proofs.Common.{ap}
+use Rattle.std.proofs.Common.{ap, ◌∙◌}
 use Rattle.algebra.specs.Binary.{binary}
-use Rattle.house_codes.specs.Values.{binary_of}
-use Rattle.house_codes.proofs.Making.{reed_solomon}
+use Rattle.field.specs.declared.binary.BinaryField.{BinaryField}
+use Rattle.house_codes.proofs.Making.{same_rs}
 use Rattle.house_codes.proofs.binary.binary_code.Goals as goal
 
 pub returns : goal.returns
-returns c = record {
-  means = reed_solomon binary_of c.in-Ok.field (binary c.args.m) c.args.n c.args.k c.new-2.result c.in-Ok-new.code
-      c.new-2.ensures.answer (ap binary c.in-Ok.ensures.1) c.requires.shaped c.in-Ok-new.is;
-  made = c.in-Ok-new.ensures.made;
-}
+returns c =
+    let made = c.in-Ok-new.ensures in
+    record { means = same_rs _ (binary c.args.m) _ _ c.args.n c.args.k (ap (λ (f : BinaryField). binary f.m) made.1 ∙ ap binary c.in-Ok.ensures.1) made.2 made.3 }

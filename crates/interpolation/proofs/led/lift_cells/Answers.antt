@@ -23,9 +23,9 @@ loop-j-preserved g c =
     let low = c.height-j-end.ensures.low in
     let few : j < rows = omega arith in
     let size = part_length c.loop-j.cells j n (omega arith) in
-    changed_more c.args.weight c.args.degree new c.args.cells.now j n c.loop-j.cells c.lift_row.new.row
+    changed_more c.args.bound.weight c.args.bound.degree new c.args.cells.now j n c.loop-j.cells c.lift_row.new.row
     (omega arith) few w (omega arith) (omega arith)
     (λ i h. c.lift_row.ensures i (omega arith)
     ∙ here F c.args.a c.args.cells.now (part j n c.loop-j.cells) j n
-    (λ i h. part_cell c.loop-j.cells j n i h ∙ still c.args.weight c.args.degree new c.args.cells.now j c.loop-j.cells c.loop-j.invariant few i (omega arith)) i h)
+    (λ i h. part_cell c.loop-j.cells j n i h ∙ still c.args.bound.weight c.args.bound.degree new c.args.cells.now j c.loop-j.cells c.loop-j.invariant few i (omega arith)) i h)
     c.loop-j.invariant

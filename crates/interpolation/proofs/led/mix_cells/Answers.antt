@@ -20,10 +20,10 @@ loop-j-preserved g c =
     let low = c.height-j-end.ensures.low in
     let few : j < rows = omega arith in
     let size = part_length c.loop-j.cells j n (omega arith) in
-    changed_more c.args.weight c.args.degree new c.args.cells.now j n c.loop-j.cells c.mix_row.new.row
+    changed_more c.args.bound.weight c.args.bound.degree new c.args.cells.now j n c.loop-j.cells c.mix_row.new.row
     (omega arith) few w (omega arith) (omega arith)
     (λ i h. c.mix_row.ensures i (omega arith)
     ∙ here F c.args.d c.args.cells.now c.args.e c.args.pivot.now j i _ _
-    (part_cell c.loop-j.cells j n i h ∙ still c.args.weight c.args.degree new c.args.cells.now j c.loop-j.cells c.loop-j.invariant few i (omega arith))
+    (part_cell c.loop-j.cells j n i h ∙ still c.args.bound.weight c.args.bound.degree new c.args.cells.now j c.loop-j.cells c.loop-j.invariant few i (omega arith))
     (part_cell c.args.pivot.now j n i h))
     c.loop-j.invariant

@@ -1,4 +1,4 @@
-use Rattle.std.proofs.Common.{◌<◌, ◌≢◌, length, refl, ◌∙◌, ap₂, arith, get_or-set_other, get_or-set_same, below_more}
+use Rattle.std.proofs.Common.{◌<◌, ◌≢◌, length, refl, ap, ◌∙◌, ap₂, arith, get_or-set_other, get_or-set_same, below_more}
 use Rattle.algebra.specs.Field.{codes}
 use Rattle.algebra.specs.CodeRecovery.{at}
 use Rattle.interpolation.proofs.Rising.{up_none, up_more}
@@ -15,7 +15,7 @@ loop-i-preserved g c =
     let same = c.loop-i.invariant.1 i (omega arith) in (
       below_more _ _
           (λ k h. let ne : k ≢ i = omega arith in rw get_or-set_other (c.loop-i.invariant.0 k h))
-          (rw get_or-set_same (c.lifted.ensures ∙ ap₂ (λ x y. F.difference x (F.product c.args.a y)) c.loop-i.invariant.2 same)),
+          (rw get_or-set_same (c.sub.ensures ∙ ap₂ F.difference c.loop-i.invariant.2 (c.mul.ensures ∙ ap (F.product c.args.a) same))),
       (λ k h. let ne : k ≢ i = omega arith in rw get_or-set_other (c.loop-i.invariant.1 k (omega arith))),
       same ∙ up_more (codes F) (at c.args.row.now) i,
     )

@@ -12,6 +12,6 @@ loop-j-preserved g c =
     let mid = c.loop-j.curve.cells in
     let new = c.mix_row.new.curve.cells in
     let f = mixed_at F c.args.root in
-    rows_more (above_at r) c.args.k j (f old) (f mid j) old mid new (λ b. omega (arith, c.requires.inside.wide)) c.loop-j.auto.j
-    (λ i h. mixed_left F (above_at r) c.args.root c.args.k j (f old) old mid c.loop-j.invariant i (omega (arith, c.requires.inside.wide))) c.loop-j.invariant
+    rows_more (above_at r) c.args.k j (f old) (f mid j) old mid new (λ b. omega (arith, c.args.region.wide)) c.loop-j.auto.j
+    (λ i h. mixed_left F (above_at r) c.args.root c.args.k j (f old) old mid c.loop-j.invariant i (omega (arith, c.args.region.wide))) c.loop-j.invariant
     (subst (λ n. RowSet 0 n j (f mid j) mid new) c.row_width.ensures c.mix_row.ensures)

@@ -6,5 +6,5 @@ use Rattle.interpolation.proofs.steps.substitute.Goals as goal
 pub returns : goal.returns
 returns g c =
     moved_all (g.F.Field.means c.args.field.now) (g.met.F.Field.lawful c.args.field.now) c.args.region c.args.root
-    c.args.curve.now.cells c.translate.new.curve.cells c.raise_rows.new.curve.cells c.requires.inside.wide c.requires.heavy c.requires.light c.translate.ensures
+    c.args.curve.now.cells c.translate.new.curve.cells c.raise_rows.new.curve.cells c.args.region.wide c.requires.heavy c.requires.light c.translate.ensures
     (subst (λ r. RowsSet (wide_at r) 0 r.height (raised_at c.translate.new.curve.cells) c.translate.new.curve.cells c.raise_rows.new.curve.cells) c.lightened.ensures c.raise_rows.ensures)

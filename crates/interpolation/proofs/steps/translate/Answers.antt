@@ -14,7 +14,7 @@ loop-k-preserved g c =
     let a : k ≡ suc (k - 1) = omega arith in
     let b : suc (Y - k) ≡ Y - (k - 1) = omega arith in
     subst (λ n. Part F X c.args.root old n (k - 1) new) b
-    (part_next F (g.met.F.Field.lawful c.args.field.now) c.args.region c.args.root old mid new (Y - k) (k - 1) c.requires.inside.wide (omega arith) c.requires.light
+    (part_next F (g.met.F.Field.lawful c.args.field.now) c.args.region c.args.root old mid new (Y - k) (k - 1) c.args.region.wide (omega arith) c.requires.light
     (subst (λ k'. Part F X c.args.root old (Y - k) k' mid) a c.loop-k.invariant) c.mix_rows.ensures)
 
 pub returns : goal.returns

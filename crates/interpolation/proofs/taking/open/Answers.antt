@@ -1,4 +1,4 @@
-use Rattle.std.proofs.Common.{◌≡◌, ℕ, ◌-◌, ◌≤◌, true, leb, sym, arith}
+use Rattle.std.proofs.Common.{◌≡◌, ℕ, ◌-◌, ◌≤◌, true, leb, Some, sym, ◌∙◌, arith, rules}
 use Rattle.std.proofs.lemmas.Bool.{and_parts, leb-true}
 use Rattle.counting.specs.Counting.{limits, suits}
 use Rattle.counting.proofs.First.{smallest_passes}
@@ -17,13 +17,14 @@ in_limits k t e =
 pub invariant_of-result : goal.invariant_of-result
 invariant_of-result c =
     let s = in_limits c.args.k c.args.t (sym c.if-not-is_shaped.ensures) in
-    let found = smallest_passes (suits limits (c.args.k - 1) c.args.t c.args.limit) 1 4 c.in-Some.r (sym c.in-Some.ensures) in
+    let some : c.counting.result ≡ Some c.in_ok-r.r = search rules in
+    let found = smallest_passes (suits limits (c.args.k - 1) c.args.t c.args.limit) 1 4 c.in_ok-r.r (sym c.counting.ensures ∙ some) in
     record {
       k_low = s.0;
       k_high = s.1;
       t_low = s.2;
       t_high = s.3;
-      few = few_pairs (c.args.k - 1) c.args.t c.args.limit c.in-Some.r found.0 found.1;
+      few = few_pairs (c.args.k - 1) c.args.t c.args.limit c.in_ok-r.r found.0 found.1;
       r_low = found.1;
       r_high = omega (arith, found.2);
       counted = found.0;

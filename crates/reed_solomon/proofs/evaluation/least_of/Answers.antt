@@ -1,5 +1,4 @@
-use Rattle.std.proofs.Common.{◌≡◌, ◌+◌, ◌-◌, is_some, sym, ap, ◌∙◌, ⊎_elim, arith}
-use Rattle.std.proofs.lemmas.Bool.{cases_eq}
+use Rattle.std.proofs.Common.{◌≡◌, ◌+◌, ◌-◌, is_some, sym, ap, ◌∙◌, arith}
 use Rattle.counting.specs.Counting.{limits, in_reach}
 use Rattle.reed_solomon.specs.LeastLemmas as least
 use Rattle.reed_solomon.specs.LeastLemmas.{least_here}
@@ -9,13 +8,6 @@ pub loop-t-init : goal.loop-t-init
 loop-t-init c = λ u lo hi.
     let e : u ≡ c.args.n = omega arith in
     ap (λ z. in_reach limits (c.args.k - 1) z c.args.n) e ∙ least.top_good limits c.args.n c.args.k (omega arith) (omega arith) (omega (arith, c.requires.high)) c.requires.low c.requires.within
-
-pub loop-t-preserved : goal.loop-t-preserved
-loop-t-preserved c = λ u lo hi.
-    ⊎_elim
-    (λ e. ap (λ z. in_reach limits (c.args.k - 1) z c.args.n) e ∙ sym (ap is_some c.counting.ensures) ∙ c.if-is_none.ensures)
-    (λ ne. c.loop-t.invariant u (omega arith) hi)
-    (cases_eq u (c.loop-t.t - 1))
 
 pub returns-then-is_none : goal.returns-then-is_none
 returns-then-is_none c =

@@ -1,7 +1,7 @@
 use Rattle.std.proofs.Common.{◌≡◌, map, take}
 use Rattle.sheet.specs.Standing.{stands}
 use Rattle.code.specs.Messages.{span}
-use Rattle.interpolation.specs.Fitting.{points_of, values_of, Gathered}
+use Rattle.interpolation.specs.Pairs.{points_of, values_of}
 use Rattle.reed_solomon.specs.Gathered.{pairs_of, fed}
 use Rattle.reed_solomon.proofs.gathering.offer_sheet.Given as goal
 
@@ -11,4 +11,3 @@ invariant-loop-i g l =
     ((points_of l.fitting.pairs, values_of l.fitting.pairs) ≡ fed (g.F.Field.means l.initial.fitting.field.now) l.initial.fitting.plan.limit (points_of l.initial.fitting.pairs, values_of l.initial.fitting.pairs) (pairs_of (span 0 l.i) (map stands (take l.i l.sheet))))
     × (l.fitting.plan ≡ l.initial.fitting.plan)
     × (l.fitting.field.now ≡ l.initial.fitting.field.now)
-    × Gathered (g.F.Field.means l.fitting.field.now) l.fitting.plan.limit (points_of l.fitting.pairs) (values_of l.fitting.pairs)

@@ -1,5 +1,5 @@
 use Rattle.std.proofs.Common.{sym, ◌∙◌, arith}
-use Rattle.algebra.proofs.Inverses.{inverse_found, inverse_none}
+use Rattle.algebra.proofs.Inverses.{inverse_found}
 use Rattle.field.proofs.traits.Field.inv.Goals as goal
 
 pub returns-then-mul-eq1 : goal.returns-then-mul-eq1
@@ -7,8 +7,3 @@ returns-then-mul-eq1 g c =
     let F = g.Self.Field.means c.args.self.now in
     inverse_found F (g.met.Self.Field.lawful c.args.self.now) c.args.a c.loop-b.b
     (omega (arith, c.size-b-end.ensures)) (sym c.mul.ensures ∙ c.if-mul-eq1.true)
-
-pub returns : goal.returns
-returns g c =
-    let F = g.Self.Field.means c.args.self.now in
-    sym (inverse_none F (g.met.Self.Field.lawful c.args.self.now) c.args.a (λ k h. c.loop-b.invariant k (omega (arith, c.size-b-end.ensures))))

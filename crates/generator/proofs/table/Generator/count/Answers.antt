@@ -16,7 +16,7 @@ loop-v-preserved g c =
 
 pub returns : goal.returns
 returns g c = record {
-  exact = counted_all (meaning_of g.F.Field.means c.args.self.now) (sheet_of c.args.sheet.now) c.args.t c.loop-v.v c.loop-v.count
+  exact = counted_all (meaning_of c.args.self.now) (sheet_of c.args.sheet.now) c.args.t c.loop-v.v c.loop-v.count
       (subst (λ z. z ≤ c.loop-v.v) c.total-v-end.ensures c.loop-v-test.false) c.loop-v.invariant;
-  few = omega (arith, c.loop-v.invariant.few, c.total-v-end.ensures, c.requires.made.few, c.loop-v.auto.v-end);
+  few = omega (arith, c.loop-v.invariant.few, c.total-v-end.ensures, c.args.self.now.kept.few, c.loop-v.auto.v-end);
 }

@@ -4,4 +4,4 @@ use Rattle.generator.proofs.Turns.{Counted}
 use Rattle.generator.proofs.table.Generator.count.Given as goal
 
 abbrev pub invariant-loop-v : goal.invariant-loop-v
-invariant-loop-v g l = Counted (meaning_of g.F.Field.means l.self) (sheet_of l.sheet) l.t l.v l.count
+invariant-loop-v g l = Counted (meaning_of l.self) (sheet_of l.sheet) l.t l.v l.count

@@ -7,10 +7,10 @@ use Rattle.generator.proofs.table.Generator.distance.Goals as goal
 pub loop-v-preserved : goal.loop-v-preserved
 loop-v-preserved g c =
     let two = (g.met.F.Field.lawful c.args.self.now.field).two in
-    lowest_more (meaning_of g.F.Field.means c.args.self.now) c.loop-v.v c.loop-v.best _ (omega arith)
+    lowest_more (meaning_of c.args.self.now) c.loop-v.v c.loop-v.best _ (omega arith)
     (subst (λ z. c.loop-v.v < z) c.total-v-end.ensures c.loop-v-test.true) c.loop-v.invariant c.fewer-best.ensures
 
 pub returns : goal.returns
 unfolding gen_distance
 returns g c =
-    c.loop-v.invariant ∙ lowest_all (meaning_of g.F.Field.means c.args.self.now) c.loop-v.v (subst (λ z. z ≤ c.loop-v.v) c.total-v-end.ensures c.loop-v-test.false)
+    c.loop-v.invariant ∙ lowest_all (meaning_of c.args.self.now) c.loop-v.v (subst (λ z. z ≤ c.loop-v.v) c.total-v-end.ensures c.loop-v-test.false)

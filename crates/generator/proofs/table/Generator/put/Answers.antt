@@ -44,16 +44,16 @@ module _ (m : Meaning) (s : Sheet) (t v at : ℕ) (buf : List ℕ) where
 
 pub returns-then-not-passes : goal.returns-then-not-passes
 returns-then-not-passes g c =
-    let r = left (meaning_of g.F.Field.means c.args.self.now) (sheet_of c.args.sheet.now) c.args.t c.args.v c.args.at c.args.buf.now c.if-not-passes.ensures in
+    let r = left (meaning_of c.args.self.now) (sheet_of c.args.sheet.now) c.args.t c.args.v c.args.at c.args.buf.now c.if-not-passes.ensures in
     record { place = r.place; buffer = r.buffer }
 
 pub slice_bounds-spell-end : goal.slice_bounds-spell-end
 slice_bounds-spell-end g c =
-    let l = long (meaning_of g.F.Field.means c.args.self.now) (sheet_of c.args.sheet.now) c.args.t c.args.v c.args.at c.args.buf.now c.if-not-passes.ensures in
+    let l = long (meaning_of c.args.self.now) (sheet_of c.args.sheet.now) c.args.t c.args.v c.args.at c.args.buf.now c.if-not-passes.ensures in
     omega (arith, c.requires.room)
 
 pub returns : goal.returns
 returns g c =
-    let r = put (meaning_of g.F.Field.means c.args.self.now) (sheet_of c.args.sheet.now) c.args.t c.args.v c.args.at c.args.buf.now c.if-not-passes.ensures
+    let r = put (meaning_of c.args.self.now) (sheet_of c.args.sheet.now) c.args.t c.args.v c.args.at c.args.buf.now c.if-not-passes.ensures
     (c.largest.result + 1) c.spell.new.message c.requires.room c.largest.ensures c.spell.ensures in
     record { place = r.place; buffer = r.buffer }

@@ -1,36 +1,29 @@
-use Rattle.std.proofs.Common.{◌≡◌, ℕ, ◌+◌, ◌-◌, ◌≤◌, true, List, length, sym, ap, subst, subst₂, arith}
-use Rattle.algebra.specs.Field.{codes}
-use Rattle.algebra.specs.Curve.{DegreeBelow, Lies}
-use Rattle.algebra.specs.CodeRecovery.{table, score}
-use Rattle.code.specs.Messages.{is_row}
-use Rattle.interpolation.specs.Size.{columns, rows}
-use Rattle.interpolation.specs.Fitting.{points_of, values_of}
+use Rattle.std.proofs.Common.{◌+◌, ◌-◌, ◌*◌, ◌≤◌, subst, subst₂}
+use Rattle.std.proofs.Props.{props}
+use Rattle.std.proofs.Math.Logic.{∥∥₁_elim}
+use Rattle.algebra.specs.CodeRecovery.{score}
+use Rattle.interpolation.specs.Pairs.{points, values, points_of, values_of}
+use Rattle.interpolation.specs.Fitting.{Around}
 use Rattle.interpolation.proofs.Opening.{admitted}
-use Rattle.interpolation.proofs.Recovering.{covers, light, positive}
+use Rattle.interpolation.proofs.Recovering.{covers, light, positive, lies_prop}
 use Rattle.interpolation.proofs.fitting.Closed.walk.Goals as goal
 
-pub walk_curve-requires : goal.walk_curve-requires
-walk_curve-requires g c =
+pub walk-requires : goal.walk-requires
+walk-requires g c =
     let F = g.F.Field.means c.args.self.field.now in
     let L = g.met.F.Field.lawful c.args.self.field.now in
-    let a = admitted (c.args.self.plan.k - 1) c.args.self.plan.t c.args.self.plan.limit c.args.self.plan.r c.args.self.plan.counted in
-    let d = c.degree.ensures in
-    let px = ap length c.points.ensures in
-    let py = ap length c.values.ensures in
-    let same = c.requires.made.pairs.same in
-    let pos = positive c.args.self.plan.r c.args.self.plan.t c.args.self.plan.r_low c.args.self.plan.t_low in
+    let p = c.args.self.plan in
+    let xs = points_of c.args.self.pairs in
+    let ys = values_of c.args.self.pairs in
+    let l = c.args.self.curve.cells in
+    let a = admitted (p.k - 1) p.t p.limit p.r p.counted in
+    let d = c.bound.ensures.degree in
+    let pos = positive p.r p.t p.r_low p.t_low in
+    let around : ∥ Around F p.k p.t p.r xs ys l ∥₁ = c.args.self.around in
     record {
-      some = c.args.self.plan.k_low;
-      small = c.args.self.plan.k_high;
-      within = omega arith;
-      pairs = omega arith;
-      light =
-          subst (λ z. DegreeBelow (codes F) columns rows (c.args.self.plan.k - 1) (z + 1) (table F columns c.args.self.curve.cells)) (sym d)
-          (light F L c.args.self.plan.k c.args.self.plan.t c.args.self.plan.r (points_of c.args.self.pairs) (values_of c.args.self.pairs) c.args.self.curve.cells
-          c.args.self.plan.k_low pos c.requires.made.pairs c.requires.made.fitted);
-      covers =
-          subst₂ (λ u v. (f : List ℕ) → is_row c.args.self.plan.k F.size f ≡ true → c.args.self.plan.t ≤ score F u v f → Lies (codes F) columns rows (table F columns c.args.self.curve.cells) f)
-          (sym c.points.ensures) (sym c.values.ensures)
-          (covers F L c.args.self.plan.k c.args.self.plan.t c.args.self.plan.r (points_of c.args.self.pairs) (values_of c.args.self.pairs) c.args.self.curve.cells
-          c.args.self.plan.k_low pos c.requires.made.pairs c.requires.made.fitted);
+      weight = c.bound.ensures.weight;
+      light = λ i j hi hj o. ∥∥₁_elim around (Prim.hlevel props) (λ w. light F L p.k p.t p.r xs ys l p.k_low pos w.pairs w.fitted i j hi hj (subst₂ (λ v z. z + 1 ≤ i + v * j) c.bound.ensures.weight d o));
+      covers = λ f row h. ∥∥₁_elim around (lies_prop F l f)
+          (λ w. covers F L p.k p.t p.r xs ys l p.k_low pos w.pairs w.fitted f row
+          (subst (λ ps. p.t ≤ score F (points ps) (values ps) f) c.held.ensures h));
     }

@@ -5,10 +5,10 @@ use Rattle.interpolation.specs.Stepped.{led, Taken}
 use Rattle.interpolation.proofs.koetter.Table.apply.Given as goal
 
 abbrev pub invariant-loop-j : goal.invariant-loop-j
-invariant-loop-j g l =
-    ((k : ℕ) → k < l.j → k ≢ l.p → Taken (g.F.Field.means l.field) l.weight k (at l.ds l.p) (at l.ds k) l.pivot.curve.cells (led l.initial.self.curves k) (led l.self.curves k))
-    × ((k : ℕ) → l.j ≤ k → led l.self.curves k ≡ led l.initial.self.curves k)
-    × (led l.self.curves l.p ≡ l.pivot)
-    × (l.self.weight ≡ l.weight)
-    × (l.self.degree ≡ l.degree)
-    × (length l.self.curves ≡ rows)
+invariant-loop-j g l = record {
+  taken : (k : ℕ) → k < l.j → k ≢ l.p → Taken (g.F.Field.means l.field) l.bound k (at l.discrepancies l.p) (at l.discrepancies k) l.pivot.curve.cells (led l.initial.self.curves k) (led l.self.curves k);
+  later : (k : ℕ) → l.j ≤ k → led l.self.curves k ≡ led l.initial.self.curves k;
+  pivot : led l.self.curves l.p ≡ l.pivot;
+  bound : l.self.bound ≡ l.bound;
+  size : length l.self.curves ≡ rows;
+}

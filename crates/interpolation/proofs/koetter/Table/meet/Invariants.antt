@@ -2,8 +2,7 @@ use Rattle.std.proofs.Common.{◌≡◌}
 use Rattle.interpolation.specs.Stepped.{PairsMet}
 use Rattle.interpolation.proofs.koetter.Table.meet.Given as goal
 
-abbrev pub invariant-loop-t : goal.invariant-loop-t
-invariant-loop-t g l =
-    PairsMet (g.F.Field.means l.field) l.initial.self.weight l.initial.self.degree l.r l.xs l.ys l.t l.self.curves
-    × (l.self.weight ≡ l.initial.self.weight)
-    × (l.self.degree ≡ l.initial.self.degree)
+abbrev pub invariant-loop-pair : goal.invariant-loop-pair
+invariant-loop-pair g l =
+    PairsMet (g.F.Field.means l.field) l.initial.self.bound l.r l.pairs l.pair-index l.self.curves
+    × (l.self.bound ≡ l.initial.self.bound)

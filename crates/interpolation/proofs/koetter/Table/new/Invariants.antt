@@ -3,4 +3,4 @@ use Rattle.interpolation.specs.Stepped.{Start}
 use Rattle.interpolation.proofs.koetter.Table.new.Given as goal
 
 abbrev pub invariant-loop-j : goal.invariant-loop-j
-invariant-loop-j l = Start l.j l.table.curves × (l.table.weight ≡ l.weight) × (l.table.degree ≡ l.degree)
+invariant-loop-j l = Start l.j l.table.curves × (l.table.bound ≡ l.fn.bound)

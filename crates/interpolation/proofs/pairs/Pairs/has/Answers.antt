@@ -1,13 +1,11 @@
-use Rattle.std.proofs.Common.{arith, rules}
-use Rattle.interpolation.proofs.Held.{among_at, among_none}
+use Rattle.std.proofs.Common.{◌∙◌, ap}
+use Rattle.interpolation.specs.Pairs.{points, values}
+use Rattle.interpolation.specs.Fitting.{among}
+use Rattle.interpolation.proofs.Held.{any_among}
 use Rattle.interpolation.proofs.pairs.Pairs.has.Goals as goal
-
-pub returns-then-self-i-2 : goal.returns-then-self-i-2
-returns-then-self-i-2 c =
-    among_at c.args.self.now.points c.args.self.now.values c.args.self.now.held c.loop-i.i c.args.point c.args.value
-    c.loop-i-test.true (search rules) (search rules) (search rules) (search rules)
 
 pub returns : goal.returns
 returns c =
-    among_none c.args.self.now.points c.args.self.now.values c.args.self.now.held c.args.point c.args.value
-    (λ i h. c.loop-i.invariant i (omega (arith, c.loop-i-test.false)))
+    let x = c.args.pair.point in
+    let y = c.args.pair.value in
+    c.contains.ensures.value ∙ any_among c.held.result.now x y ∙ ap (λ ps. among (points ps) (values ps) x y) c.held.ensures

@@ -1,7 +1,7 @@
 use Rattle.std.proofs.Common.{◌∙◌, subst, arith}
 use Rattle.record.specs.Values.{letters_of}
 use Rattle.record.specs.History.{call_at}
-use Rattle.record.proofs.Serving.{Turn, sofar_more, sofar_all}
+use Rattle.record.proofs.Serving.{Turn, sofar_more}
 use Rattle.record.proofs.recording.Record.serve_all.Goals as goal
 
 pub loop-i-preserved : goal.loop-i-preserved
@@ -20,8 +20,3 @@ loop-i-preserved g c =
           (subst (λ k. Turn (means k) (letters_of means was) (call_at calls i) i c.loop-i.at c.end_of-end.result c.loop-i.answers c.loop-i.buffers (letters_of means last.self) last.answers last.buffers) same turn)
           (omega (arith, c.count_served-i-end.ensures, c.loop-i-test.true)) (omega (arith, c.count_served-i-end.ensures, c.loop-i-test.true, c.loop-i.auto.answers)) c.loop-i.auto.answers,
     )
-
-pub returns : goal.returns
-returns g c =
-    let end = c.loop-i.auto.i-end in
-    record { same = c.loop-i.invariant.0; book = sofar_all c.args.calls.now c.loop-i.invariant.1 (omega (arith, end, c.count_served-i-end.ensures, c.loop-i-test.false)) }

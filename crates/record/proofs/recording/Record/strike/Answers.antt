@@ -1,25 +1,14 @@
-use Rattle.std.proofs.Common.{◌≡◌, ◌<◌, ◌≤◌, length, refl, arith, rules}
+use Rattle.std.proofs.Common.{◌≡◌, ◌<◌, ◌≤◌, length, arith, rules}
 use Rattle.record.proofs.Passing.{place_passes}
-use Rattle.record.proofs.Places.{strike_after, strike_answer}
+use Rattle.record.proofs.Places.{strike_after}
 use Rattle.record.proofs.recording.Record.strike.Goals as goal
 
-pub bounds-self-place : goal.bounds-self-place
-bounds-self-place g c =
-    let high = (g.met.C.Code.lawful c.args.self.now.code c.requires.made).sizes.n_high in
-    let t = place_passes c.args.place c.places.result _ c.in_ok-check_place.ensures in
-    omega (arith, t, c.places.ensures)
-
-pub returns : goal.returns
-returns g c =
+pub returns-clause-after : goal.returns-clause-after
+returns-clause-after g c =
     let m = g.C.Code.means c.args.self.now.code in
     let marks = c.args.self.now.sheet in
-    let high = (g.met.C.Code.lawful c.args.self.now.code c.requires.made).sizes.n_high in
+    let high = (g.met.C.Code.lawful c.args.self.now.code).sizes.n_high in
     let t = place_passes c.args.place c.places.result _ c.in_ok-check_place.ensures in
     let lp : c.args.place < m.n = omega (arith, t, c.places.ensures) in
     let long : m.n ≤ length marks = let e : length marks ≡ 240 = search rules in omega arith in
-    record {
-      made = c.requires.made;
-      same = refl;
-      answer = strike_answer m marks c.args.place _ lp long c.clear_letters.result c.clear_letters.ensures.answer;
-      after = strike_after m marks c.args.place _ lp long c.clear_letters.new.marks c.clear_letters.ensures.after;
-    }
+    strike_after m marks c.args.place _ lp long c.clear_letters.new.marks c.clear_letters.ensures.after

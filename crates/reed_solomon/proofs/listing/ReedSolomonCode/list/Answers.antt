@@ -1,15 +1,19 @@
 use Rattle.std.proofs.Common.{length, sym, subst, rules}
 use Rattle.sheet.specs.Standing.{sheet_of}
+use Rattle.code.proofs.Answering.{admitted_parts, admitted_err}
+use Rattle.reed_solomon.specs.Values.{meaning_of}
 use Rattle.reed_solomon.specs.Few.{Few}
 use Rattle.reed_solomon.proofs.Few.{reached_few}
 use Rattle.reed_solomon.proofs.listing.ReedSolomonCode.list.Goals as goal
 
-pub returns : goal.returns
-returns g c = record {
-  answer = search rules;
-  buffer = search rules;
-  few =
-      subst Few (sym c.recover.ensures.answer)
-      (reached_few (g.F.Field.means c.args.self.now.field) (g.met.F.Field.lawful c.args.self.now.field) c.args.self.now.n c.args.self.now.k c.requires.made (sheet_of c.args.sheet.now) c.args.t (length c.args.buf.now)
-      (sym c.if-not-has_sheet.ensures) (sym c.if-not-has_agreement.ensures));
-}
+pub returns-in_err-check_list-clause-buffer : goal.returns-in_err-check_list-clause-buffer
+returns-in_err-check_list-clause-buffer g c =
+    let zeros = admitted_err (meaning_of c.args.self.now) (sheet_of c.args.sheet.now) c.args.t (length c.args.buf.now) _ (sym c.in_err-check_list.ensures) in
+    search (rules, zeros)
+
+pub returns-clause-few : goal.returns-clause-few
+returns-clause-few g c =
+    let admitted = admitted_parts (meaning_of c.args.self.now) (sheet_of c.args.sheet.now) c.args.t (sym c.in_ok-check_list.ensures) in
+    subst Few (sym c.recover.ensures.answer)
+    (reached_few (g.F.Field.means c.args.self.now.field) (g.met.F.Field.lawful c.args.self.now.field) c.args.self.now.n c.args.self.now.k c.args.self.now.kept (sheet_of c.args.sheet.now) c.args.t (length c.fill.new.self)
+    admitted.0 admitted.1)

@@ -1,6 +1,0 @@
-use Rattle.std.proofs.Common.{◌≡◌, ℕ, ◌<◌, ◌≤◌, false}
-use Rattle.counting.specs.Counting.{limits, suits}
-use Rattle.counting.proofs.smallest_from.Given as goal
-
-abbrev pub invariant-loop-r : goal.invariant-loop-r
-invariant-loop-r l = (i : ℕ) → l.first ≤ i → i < l.r → suits limits l.v l.t l.load i ≡ false
