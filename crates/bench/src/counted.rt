@@ -3,13 +3,13 @@ use field::Field;
 use std::cell::Cell;
 
 #[derive(Drop)]
-pub struct Counted<F: Field> {
+pub(crate) struct Counted<F: Field> {
     field: F,
     products: Cell<u64>,
 }
 
 impl<F: Field> Counted<F> {
-    pub fn new(field: F) -> Counted<F> {
+    pub(crate) fn new(field: F) -> Counted<F> {
         Counted {
             field,
             products: Cell::new(0),
@@ -17,7 +17,7 @@ impl<F: Field> Counted<F> {
     }
 
     // How many products there were since the last call, or since it was made.
-    pub fn take_products(&self) -> u64 {
+    pub(crate) fn take_products(&self) -> u64 {
         self.products.replace(0)
     }
 }

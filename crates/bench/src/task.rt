@@ -7,7 +7,7 @@ use std::fmt;
 
 // A word of n places, of which t are right, with more letters until the load is reached.
 #[derive(Clone, Copy)]
-pub struct Task {
+pub(crate) struct Task {
     name: &'static str,
     n: usize,
     k: usize,
@@ -26,7 +26,7 @@ impl fmt::Display for Task {
 }
 
 impl Task {
-    pub fn new(name: &'static str, n: usize, k: usize, t: usize, load: usize) -> Task {
+    pub(crate) fn new(name: &'static str, n: usize, k: usize, t: usize, load: usize) -> Task {
         Task {
             name,
             n,
@@ -47,7 +47,11 @@ impl Task {
     }
 
     // The pairs, place after place, and then again with other letters.
-    pub fn pairs<F: Field>(&self, heap: Global, field: &F) -> Result<Vec<(u8, u8)>, AllocError> {
+    pub(crate) fn pairs<F: Field>(
+        &self,
+        heap: Global,
+        field: &F,
+    ) -> Result<Vec<(u8, u8)>, AllocError> {
         let n = self.n.max(1);
         let mut pairs = Vec::new(heap);
         for i in 0..self.load {
@@ -58,7 +62,7 @@ impl Task {
     }
 
     // Lists the task; answers how many polynomials there are.
-    pub fn list<F: Field>(&self, field: &F, pairs: &[(u8, u8)]) -> Result<usize, Fault> {
+    pub(crate) fn list<F: Field>(&self, field: &F, pairs: &[(u8, u8)]) -> Result<usize, Fault> {
         let plan = open(self.k, self.t, self.load)?;
         let mut fitting = Gathering::new(field, plan);
         for (point, letter) in pairs {

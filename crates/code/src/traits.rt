@@ -1,5 +1,5 @@
 // A code, by what it means: one value, on which the listing rule holds.
-ghost use Rattle.std.specs.Prelude.{◌≡◌, ℕ, ◌&&◌, length, nat_le};
+ghost use Rattle.std.specs.Prelude.{◌≡◌, ℕ, ◌+◌, ◌&&◌, length, nat_le};
 ghost use Rattle.sheet.specs.Standing.{sheet_of};
 ghost use Rattle.code.specs.Meaning.{Meaning};
 ghost use Rattle.code.specs.Rule.{ListingRule};
@@ -40,6 +40,13 @@ pub trait Code {
 
     fn dimension(&self) -> usize
         ensures { result ≡ (means self.now).k };
+
+    // The largest letter of messages.
+    fn largest(&self) -> u8
+        ensures { result + 1 ≡ (means self.now).p }
+    {
+        (self.base() - 1) as u8
+    }
 
     // The largest agreement, and the least at which a clean word is sure to be listed alone.
     fn top(&self) -> usize

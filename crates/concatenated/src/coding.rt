@@ -1,21 +1,22 @@
 // A concatenated code is a code.
-ghost use Rattle.std.specs.Prelude.{◌≡◌, length};
+ghost use Rattle.std.specs.Prelude.{◌≡◌, length, replicate};
 ghost use Rattle.sheet.specs.Standing.{sheet_of};
 ghost use Rattle.code.specs.Answers.{listed, shown};
 ghost use Rattle.concatenated.specs.Values.{meaning_of};
 ghost use Rattle.concatenated.specs.Lifting.{InRange};
 ghost use Rattle.concatenated.specs.Law.{concatenated_lawful};
 
-use crate::joining::{Concatenated, MAX_PLACES};
+use crate::joining::Concatenated;
 use crate::places::scaled;
 use crate::words::write_blocks;
-use code::Code;
+use code::{Code, MAX_PLACES};
 use fault::Fault;
 use sheet::Marks;
 
 impl<O: Code, I: Code> Concatenated<O, I> {
     // The list on a sheet of the code, at an agreement in range: the blocks from the first, then the outer code.
     fn recover(&self, sheet: &[Marks], t: usize, buf: &mut [u8]) -> Result<usize, Fault>
+        requires zeros { buf.old ≡ replicate (length buf.old) 0 }
         requires asked { InRange (O.means self.now.outer) (I.means self.now.inner) self.now.agreement (sheet_of sheet.now) t }
         ensures answer { result ≡ listed (meaning_of self.now) (sheet_of sheet.now) t (length buf.old) }
         ensures buffer { buf.new ≡ shown (meaning_of self.now) (sheet_of sheet.now) t (length buf.old) }
@@ -23,13 +24,11 @@ impl<O: Code, I: Code> Concatenated<O, I> {
         let blank = Marks::new();
         let mut table = [blank; MAX_PLACES];
         let above = &mut table[0..self.outer.places()];
-        if let Err(reach) = self.lift_blocks(sheet, above) {
-            buf.fill(0);
-            return Err(Fault::from(reach));
-        }
+        self.lift_blocks(sheet, above)?;
         match self.outer.list(above, t, buf) {
             Ok(count) => Ok(count),
-            // In a match of its own: of what a pattern inside a pattern leaves over, a proof is not told that it is no Reach.
+            // In a match of its own: of what a pattern inside a pattern leaves over, a proof is not told that it is no Reach; and the
+            // three answers are proved apart, which a closure for map_err leaves in one.
             Err(fault) => match fault {
                 Fault::Reach(reach) => Err(Fault::Reach(scaled(reach, self.inner.places()))),
                 _ => Err(fault),

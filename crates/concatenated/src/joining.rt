@@ -3,11 +3,8 @@ ghost use Rattle.std.specs.Prelude.{◌≡◌, ◌^◌, ◌≤◌, true, false, 
 ghost use Rattle.fault.specs.declared.Fault.TheVariants.{Join};
 ghost use Rattle.concatenated.specs.Concatenation.{joins, Joined};
 
-use code::Code;
+use code::{Code, MAX_PLACES};
 use fault::Fault;
-
-// The most places that a concatenated code may have.
-pub const MAX_PLACES: usize = 240;
 
 // An outer code above an inner code, whose blocks are listed at an agreement of the inner code.
 #[derive(Drop)]
@@ -16,7 +13,7 @@ pub struct Concatenated<O: Code, I: Code> {
     pub(crate) inner: I,
     pub(crate) agreement: usize,
     // The outer letters are the numbers of the inner messages, and the agreement and the places lie in their limits.
-    ghost joined: { Joined (O.means outer) (I.means inner) agreement },
+    pub ghost joined: { Joined (O.means outer) (I.means inner) agreement },
 }
 
 // Whether q is p to the k.

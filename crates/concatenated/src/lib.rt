@@ -9,5 +9,6 @@ mod places;
 mod theorems;
 mod words;
 
-pub use joining::{Concatenated, MAX_PLACES};
+pub use code::MAX_PLACES;
+pub use joining::Concatenated;
 pub use theorems::concatenations_stand;

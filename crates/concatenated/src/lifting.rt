@@ -9,10 +9,12 @@ ghost use Rattle.concatenated.specs.Lifting.{Blocks, Lifts, LiftsAt, LiftsAll};
 
 use crate::joining::Concatenated;
 use crate::places::{block_of, raised};
-use crate::words::largest;
-use code::{Code, number_of};
+use code::{Code, MAX_DIMENSION, number_of};
 use fault::{Fault, Reach};
 use sheet::Marks;
+
+// The letters of the longest inner list: 256 messages.
+const FOUND: usize = 256 * MAX_DIMENSION;
 
 // The number of a message, which is a letter.
 fn letter_of(message: &[u8], last: u8) -> u8
@@ -21,7 +23,7 @@ fn letter_of(message: &[u8], last: u8) -> u8
 {
     match number_of(message, last) {
         Some(v) => v as u8,
-        None => unreachable(),
+        None => unreachable!(),
     }
 }
 
@@ -40,18 +42,19 @@ fn gather(found: &[u8], count: usize, k: usize, last: u8) -> Marks
 }
 
 impl<O: Code, I: Code> Concatenated<O, I> {
-    // The numbers of the messages that the inner code lists on one block. At most 256 messages of 16 letters find room in the table.
+    // The numbers of the messages that the inner code lists on one block.
     fn lift_block(&self, part: &[Marks]) -> Result<Marks, Reach>
         requires { is_sheet (I.means self.now.inner) (sheet_of part.now) ≡ true }
         ensures { Lifts (I.means self.now.inner) self.now.agreement (sheet_of part.now) result }
     {
-        let mut found = [0u8; 4096];
+        let mut found = [0u8; FOUND];
         match self.inner.list(part, self.agreement, &mut found) {
-            Ok(count) => Ok(gather(&found, count, self.inner.dimension(), largest(&self.inner))),
-            // In a match of its own: of what a pattern inside a pattern leaves over, a proof is not told that it is no Reach.
+            Ok(count) => Ok(gather(&found, count, self.inner.dimension(), self.inner.largest())),
+            // In a match of its own: of what a pattern inside a pattern leaves over, a proof is not told that it is no Reach, and that
+            // no other refusal comes is shown here.
             Err(fault) => match fault {
                 Fault::Reach(reach) => Err(reach),
-                _ => unreachable(),
+                _ => unreachable!(),
             },
         }
     }

@@ -4,23 +4,16 @@ ghost use Rattle.code.specs.Messages.{each};
 ghost use Rattle.concatenated.specs.Concatenation.{inner_word};
 ghost use Rattle.concatenated.specs.Writing.{with_block};
 
-use code::{Code, spell};
-
-// The largest letter of a code's messages.
-pub(crate) fn largest<C: Code>(code: &C) -> u8
-    ensures { result + 1 ≡ (C.means code.now).p }
-{
-    (code.base() - 1) as u8
-}
+use code::{Code, MAX_DIMENSION, spell};
 
 // Writes the inner word of the message with this number.
 fn write_word<I: Code>(inner: &I, letter: u8, part: &mut [u8])
     requires whole { length part.old ≡ (I.means inner.now).n }
     ensures { part.new ≡ inner_word (I.means inner.now) letter }
 {
-    let mut letters = [0u8; 16];
+    let mut letters = [0u8; MAX_DIMENSION];
     let message = &mut letters[0..inner.dimension()];
-    spell(letter as usize, largest(inner), message);
+    spell(letter as usize, inner.largest(), message);
     let _ = inner.encode(message, part);
 }
 
@@ -39,8 +32,7 @@ pub(crate) fn write_blocks<I: Code>(inner: &I, above: &[u8], word: &mut [u8])
     ensures { word.new ≡ each (inner_word (I.means inner.now)) above.now }
 {
     let n = inner.places();
-    // By index: what is written through an iterator is not known to a proof afterwards.
-    for b in 0..above.len() {
-        write_block(inner, above[b], n, b, word);
+    for (b, letter) in above.iter().enumerate() {
+        write_block(inner, *letter, n, b, word);
     }
 }

@@ -23,5 +23,5 @@ pub struct Generator<F: Field> {
     pub(crate) n: usize,
     pub(crate) k: usize,
     // The sizes lie in their limits, the letters are the field's, and the identity stands in front.
-    ghost kept: { Table (F.means field) table n k },
+    pub ghost kept: { Table (F.means field) table n k },
 }

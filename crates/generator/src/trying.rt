@@ -10,18 +10,11 @@ ghost use Rattle.generator.specs.Steps.{how_many, passes, added, written, lower}
 
 use crate::table::{Generator, MAX_PLACES, MAX_ROWS};
 use crate::words::{is_blank, nonzeros_of, word_of};
-use code::{hits, spell};
+use code::{Code, hits, spell};
 use field::Field;
 use sheet::Marks;
 
 impl<F: Field> Generator<F> {
-    // The largest letter.
-    fn largest(&self) -> u8
-        ensures { result + 1 ≡ (meaning_of self.now).p }
-    {
-        (self.field.size() - 1) as u8
-    }
-
     // How many messages there are.
     fn total(&self) -> usize
         ensures { result ≡ how_many (meaning_of self.now) }
@@ -29,7 +22,7 @@ impl<F: Field> Generator<F> {
         (self.field.size() as usize).pow(self.k as u32)
     }
 
-    // Whether message v scores at least t.
+    // Whether message v scores at least t. It spells and encodes as `fewer` does: a helper that hands both rows back would be no plainer.
     fn passes(&self, sheet: &[Marks], t: usize, v: usize) -> bool
         ensures { result ≡ passes (meaning_of self.now) (sheet_of sheet.now) t v }
     {
@@ -83,7 +76,7 @@ impl<F: Field> Generator<F> {
         count
     }
 
-    // Writes message v into the buffer from a place on, where it scores at least t. Answers the place after it.
+    // The buffer is the caller's, in fixed memory. Writes message v into it from a place on, where it scores at least t. Answers the place after it.
     fn put(&self, sheet: &[Marks], t: usize, v: usize, buf: &mut [u8], at: usize) -> usize
         requires room { at + length (added (meaning_of self.now) (sheet_of sheet.now) t v) ≤ length buf.old }
         ensures place { result ≡ at + length (added (meaning_of self.now) (sheet_of sheet.now) t v) }

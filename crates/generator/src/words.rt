@@ -14,7 +14,7 @@ fn letter_of<F: Field>(field: &F, table: &[u8], n: usize, message: &[u8], j: usi
     ensures { result ≡ letter (F.means field.now) table.now n message.now j }
 {
     let mut sum = 0;
-    // By index: the letters of a column lie n apart.
+    // By index: the letters of a column lie n apart, which `skip` and `step_by` would say no plainer.
     for i in (0..message.len()).rev() {
         sum = field.add(field.mul(message[i], table[i * n + j]), sum);
     }
@@ -75,7 +75,7 @@ pub(crate) fn is_identity(table: &[u8], n: usize, k: usize) -> bool
     requires n { n ≤ max_places }
     ensures { result ≡ has_identity table.now n k }
 {
-    // By index: chunks_exact would ask for a width that is not zero.
+    // By index: row i is asked for by its number, which a numbered `chunks_exact` would say no plainer.
     for i in 0..k {
         if !is_unit(&table[i * n..i * n + n], k, i) {
             return false;

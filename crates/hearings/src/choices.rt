@@ -35,6 +35,7 @@ impl TryFrom<u8> for Choice {
 }
 
 impl Choice {
+    // The number in the file; it stands beside those that `try_from` reads, which discriminants would say no plainer.
     pub(crate) fn number(self) -> u8
         ensures { result ≡ number_of self }
     {

@@ -1,7 +1,7 @@
 // The messages of a list.
 ghost use Rattle.std.specs.Prelude.{◌*◌, ◌≤◌, length};
 
-// They lie one after another in the list's buffer, each of k letters.
+// In fixed memory: they lie one after another in the list's buffer, each of k letters.
 #[derive(Clone, Copy)]
 pub(crate) struct Messages<'a> {
     pub(crate) k: usize,

@@ -5,7 +5,7 @@ ghost use Rattle.hearings.specs.Lines.{field, newline};
 
 use itoa::Buffer;
 
-// A buffer, and where the text in it ends. What lies past the buffer is counted and not written.
+// A buffer in fixed memory, which the caller gives, and where the text in it ends. What lies past the buffer is counted and not written.
 #[derive(Drop)]
 pub(crate) struct Text<'a> {
     bytes: &'a mut [u8],

@@ -16,10 +16,10 @@ pub(crate) fn binary_code(m: u8, n: usize, k: usize) -> ReedSolomon<BinaryField>
     ensures means { meaning_of result ≡ rs_meaning limits (binary m) n k }
 {
     let Ok(field) = BinaryField::new(m) else {
-        unreachable()
+        unreachable!()
     };
     let Ok(code) = ReedSolomon::new(field, n, k) else {
-        unreachable()
+        unreachable!()
     };
     code
 }

@@ -17,7 +17,7 @@ pub fn brine_code() -> BrineCode
     let outer = binary_code(8, 24, 4);
     let inner = binary_code(4, 8, 2);
     let Ok(code) = Concatenated::new(outer, inner, 4) else {
-        unreachable()
+        unreachable!()
     };
     code
 }

@@ -13,10 +13,10 @@ pub fn header_code() -> HeaderCode
     ensures means { meaning_of result ≡ header }
 {
     let Ok(eleven) = PrimeField::new(11) else {
-        unreachable()
+        unreachable!()
     };
     let Ok(code) = ReedSolomon::new(eleven, 10, 3) else {
-        unreachable()
+        unreachable!()
     };
     code
 }

@@ -25,10 +25,10 @@ pub fn slab_inner_code() -> Generator<PrimeField>
     ensures means { generator_meaning result ≡ slab_inner }
 {
     let Ok(two) = PrimeField::new(2) else {
-        unreachable()
+        unreachable!()
     };
     let Ok(code) = Generator::new(two, 8, 4, &ROWS) else {
-        unreachable()
+        unreachable!()
     };
     code
 }
@@ -40,7 +40,7 @@ pub fn slab_code() -> SlabCode
     let outer = binary_code(4, 15, 4);
     let inner = slab_inner_code();
     let Ok(code) = Concatenated::new(outer, inner, 6) else {
-        unreachable()
+        unreachable!()
     };
     code
 }

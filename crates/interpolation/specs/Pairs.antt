@@ -1,5 +1,5 @@
 -- The pairs of a fitting.
-use Rattle.std.specs.Prelude.{ℕ, List, map, take}
+use Rattle.std.specs.Prelude.{ℕ, List, map}
 use Rattle.interpolation.specs.declared.pairs.Pair.{Pair}
 use Rattle.interpolation.specs.declared.pairs.Pairs.{Pairs}
 
@@ -12,7 +12,7 @@ values ps = map (λ p. p.value) ps
 
 -- the pairs held
 abbrev pub pairs_of : Pairs → List Pair
-pairs_of p = take p.held p.table
+pairs_of p = p.table.items
 
 -- their points, and their values
 abbrev pub points_of : Pairs → List ℕ

@@ -51,12 +51,11 @@ impl Table {
     }
 
     // The discrepancies of all curves.
-    fn values<F: Field>(&self, field: &F, wx: &[u8], wy: &[u8]) -> [u8; ROWS]
-        requires wide { self.now.bound.degree < length wx.now }
-        requires high { rows ≤ length wy.now }
+    fn values<F: Field>(&self, field: &F, wx: &[u8; COLUMNS], wy: &[u8; ROWS]) -> [u8; ROWS]
         ensures { (j : ℕ) → j < rows → Valued (F.means field.now) self.now.bound wx.now wy.now (led self.now.curves j) j (at result j) }
     {
         let mut discrepancies = [0; ROWS];
+        // A loop, since `array::from_fn` says nothing that ties a value to the curve that it was made of.
         for (j, led) in self.curves.iter().enumerate() {
             discrepancies[j] = led.value(field, self.bound, j, wx, wy);
         }
@@ -67,6 +66,7 @@ impl Table {
     fn choose(&self, discrepancies: &[u8; ROWS]) -> Option<usize>
         ensures { Chosen self.now.bound self.now.curves discrepancies.now rows result }
     {
+        // A loop, since `filter` and `min_by_key` say too little of the curves that are passed over.
         let mut best: Option<usize> = None;
         for (j, d) in discrepancies.iter().enumerate() {
             if *d != 0 && best.is_none_or(|p| self.lead_degree(j) < self.lead_degree(p)) {
@@ -95,9 +95,7 @@ impl Table {
     }
 
     // One step of the method, at the condition whose weights are given.
-    fn step<F: Field>(&mut self, field: &F, a: u8, wx: &[u8], wy: &[u8])
-        requires wide { self.old.bound.degree < length wx.now }
-        requires high { rows ≤ length wy.now }
+    fn step<F: Field>(&mut self, field: &F, a: u8, wx: &[u8; COLUMNS], wy: &[u8; ROWS])
         ensures stepped { StepsAt (F.means field.now) self.old.bound a wx.now wy.now self.old.curves self.new.curves }
         ensures bound { self.new.bound ≡ self.old.bound }
     {

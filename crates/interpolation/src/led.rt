@@ -1,11 +1,11 @@
 // A curve with its lead, and what a step does with one curve. Only the coefficients up to the curve's weighted degree are touched:
 // row j is cut from the table by its number, since each row has another width.
 ghost use Rattle.std.specs.Prelude.{◌≡◌, ℕ, suc, ◌+◌, ◌*◌, ◌<◌, ◌≤◌, ◌≢◌, length};
-ghost use Rattle.interpolation.specs.Size.{columns, rows, cells as all};
+ghost use Rattle.interpolation.specs.Size.{columns, rows};
 ghost use Rattle.interpolation.specs.Region.{mixed_cell, lifted_cell, Changed};
 ghost use Rattle.interpolation.specs.Stepped.{Derived, Valued, Taken};
 
-use crate::curve::{Bound, COLUMNS, Curve};
+use crate::curve::{Bound, CELLS, COLUMNS, Curve, ROWS};
 use crate::rows::{dot, lift_row, mix_row};
 use field::Field;
 
@@ -17,10 +17,13 @@ pub(crate) struct LedCurve {
 }
 
 // The derivative of a curve whose weights are given.
-fn value_cells<F: Field>(field: &F, bound: Bound, wx: &[u8], wy: &[u8], cells: &[u8]) -> u8
-    requires wide { bound.degree < length wx.now }
-    requires high { rows ≤ length wy.now }
-    requires cells { length cells.now ≡ all }
+fn value_cells<F: Field>(
+    field: &F,
+    bound: Bound,
+    wx: &[u8; COLUMNS],
+    wy: &[u8; ROWS],
+    cells: &[u8; CELLS],
+) -> u8
     ensures { Derived (F.means field.now) bound.weight bound.degree wx.now wy.now cells.now result }
 {
     let mut sum = 0;
@@ -36,9 +39,14 @@ fn value_cells<F: Field>(field: &F, bound: Bound, wx: &[u8], wy: &[u8], cells: &
 }
 
 // d times a curve less e times the pivot, in its place.
-fn mix_cells<F: Field>(field: &F, bound: Bound, d: u8, cells: &mut [u8], e: u8, pivot: &[u8])
-    requires cells { length cells.old ≡ all }
-    requires pivot { length pivot.now ≡ all }
+fn mix_cells<F: Field>(
+    field: &F,
+    bound: Bound,
+    d: u8,
+    cells: &mut [u8; CELLS],
+    e: u8,
+    pivot: &[u8; CELLS],
+)
     ensures { Changed bound.weight bound.degree rows (mixed_cell (F.means field.now) d cells.old e pivot.now) cells.old cells.new }
 {
     for j in 0..bound.height() {
@@ -55,8 +63,7 @@ fn mix_cells<F: Field>(field: &F, bound: Bound, d: u8, cells: &mut [u8], e: u8, 
 }
 
 // x - a times a curve, in its place.
-fn lift_cells<F: Field>(field: &F, bound: Bound, a: u8, cells: &mut [u8])
-    requires cells { length cells.old ≡ all }
+fn lift_cells<F: Field>(field: &F, bound: Bound, a: u8, cells: &mut [u8; CELLS])
     ensures { Changed bound.weight bound.degree rows (lifted_cell (F.means field.now) a cells.old) cells.old cells.new }
 {
     for j in 0..bound.height() {
@@ -73,12 +80,10 @@ impl LedCurve {
         field: &F,
         bound: Bound,
         j: usize,
-        wx: &[u8],
-        wy: &[u8],
+        wx: &[u8; COLUMNS],
+        wy: &[u8; ROWS],
     ) -> u8
         requires row { j < rows }
-        requires wide { bound.degree < length wx.now }
-        requires high { rows ≤ length wy.now }
         ensures { Valued (F.means field.now) bound wx.now wy.now self.now j result }
     {
         let degree = bound.degree_of(self.lead, j);

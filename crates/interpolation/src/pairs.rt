@@ -1,20 +1,19 @@
-// The pairs that a fitting has taken, in a fixed table.
+// The pairs that a fitting has taken, in fixed memory.
 ghost use Rattle.std.specs.Prelude.{◌≡◌, ◌<◌, ◌≤◌, [], ◌∷◌, ◌++◌, length};
 
 use crate::plan::MAX_PAIRS;
+use arrayvec::ArrayVec;
 
 // A point, and the value that a polynomial is to have there: codes of elements of the field.
-#[derive(Clone, Copy, PartialEq, Eq)]
+#[derive(Clone, Copy, Default, PartialEq, Eq)]
 pub struct Pair {
     pub(crate) point: u8,
     pub(crate) value: u8,
 }
 
-#[derive(Clone, Copy)]
+#[derive(Drop)]
 pub struct Pairs {
-    pub(crate) table: [Pair; MAX_PAIRS],
-    pub(crate) held: usize,
-    ghost few: { held ≤ 1024 },
+    table: ArrayVec<Pair, MAX_PAIRS>,
 }
 
 impl Pairs {
@@ -26,8 +25,7 @@ impl Pairs {
         ensures values { values_of result ≡ [] }
     {
         Pairs {
-            table: [Pair { point: 0, value: 0 }; MAX_PAIRS],
-            held: 0,
+            table: ArrayVec::new(),
         }
     }
 
@@ -35,17 +33,15 @@ impl Pairs {
     pub(crate) fn held(&self) -> &[Pair]
         ensures { result.now ≡ pairs_of self.now }
     {
-        &self.table[..self.held]
+        self.table.as_slice()
     }
 
     // How many pairs are held.
     pub(crate) fn len(&self) -> usize
         ensures value { result ≡ length (points_of self.now) }
-        ensures values { result ≡ length (values_of self.now) }
         ensures few { result ≤ 1024 }
-        ensures held { result ≡ self.now.held }
     {
-        self.held
+        self.table.len()
     }
 
     // Whether the pair is held.
@@ -57,11 +53,10 @@ impl Pairs {
 
     // One pair more.
     pub(crate) fn push(&mut self, pair: Pair)
-        requires { self.old.held < 1024 }
+        requires { length (points_of self.old) < 1024 }
         ensures points { points_of self.new ≡ points_of self.old ++ pair.point ∷ [] }
         ensures values { values_of self.new ≡ values_of self.old ++ pair.value ∷ [] }
     {
-        self.table[self.held] = pair;
-        self.held += 1;
+        self.table.push(pair);
     }
 }

@@ -17,7 +17,7 @@ impl Region {
     ghost use Rattle.interpolation.specs.Size.{rows};
     ghost use Rattle.interpolation.specs.Steps.{wide_at, lighter, Narrower};
 
-    // How many coefficients of row j are in use.
+    // How many coefficients of row j are in use: as `Bound::width` counts, but of a width that shrinks in the walk, to none.
     pub(crate) fn row_width(&self, j: usize) -> usize
         requires { j ≤ rows }
         ensures { result ≡ wide_at self.now j }

@@ -8,7 +8,7 @@ ghost use Rattle.interpolation.specs.Region.{mixed, lifted};
 
 use field::Field;
 
-// The sum of weight times coefficient.
+// The sum of weight times coefficient. By index: a zip of the two made the lists of a header twice as slow.
 pub(crate) fn dot<F: Field>(field: &F, weights: &[u8], row: &[u8]) -> u8
     requires { length row.now ≤ length weights.now }
     ensures { result ≡ dot (codes (F.means field.now)) (length row.now) (at weights.now) (at row.now) }

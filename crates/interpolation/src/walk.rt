@@ -31,7 +31,7 @@ pub(crate) struct Search<'a, F: Field> {
     ghost small: { k ≤ 16 },
 }
 
-// The coefficients chosen so far, and at each depth the curve that the rest of the polynomial lies on.
+// The coefficients chosen so far, and at each depth the curve that the rest of the polynomial lies on, in tables of fixed size.
 #[derive(Clone, Copy)]
 struct Trail {
     curves: [Curve; MAX_COEFFICIENTS],
@@ -68,6 +68,8 @@ impl Trail {
         }
     }
 }
+
+// The buffer and its used bytes go side by side through the walk: a ghost field that ties them is not covered beside a `&mut`.
 
 // One message more after the bytes used, where it fits.
 fn push(message: &[u8], buf: &mut [u8], used: usize) -> Option<usize>

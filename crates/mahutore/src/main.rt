@@ -55,7 +55,7 @@ fn print_answer(rt: &HostRuntime, call: Call, answer: Answer) -> io::Result<()> 
 fn serve<C: Code + Drop>(rt: &HostRuntime, code: C, task: &Task) -> anyhow::Result<()> {
     let heap = rt.alloc();
     let dimension = code.dimension();
-    let largest = u8::try_from(code.base().saturating_sub(1))?;
+    let largest = code.largest();
     println!(rt;
         "family {} letters {} places {} top {} least {}",
         C::FAMILY,

@@ -52,7 +52,7 @@ impl<C: Code> Record<C> {
         ensures book { ByTheBook (code_of C.means self.old) (letters_of C.means self.old) calls.now answers.old buffers.old (letters_of C.means self.new) answers.new buffers.new }
     {
         let mut at = 0;
-        // By index: what is written through an iterator is not known to a proof afterwards.
+        // By index: i is the call's number and that of its slot, and no plainer from a part of the calls.
         for i in 0..count_served(calls, answers) {
             let end = end_of(calls[i], at, buffers.len());
             self.serve_into(calls[i], i, answers, at, end, buffers);

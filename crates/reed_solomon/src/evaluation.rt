@@ -22,7 +22,7 @@ pub struct ReedSolomon<F: Field> {
     pub(crate) n: usize,
     pub(crate) k: usize,
     // n and k lie in their limits over the field.
-    ghost kept: { Shape (F.means field) n k },
+    pub ghost kept: { Shape (F.means field) n k },
 }
 
 // Whether n and k lie in their limits, over a field of q elements.

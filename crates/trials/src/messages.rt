@@ -10,9 +10,8 @@ const ROOM: usize = 2048;
 
 // The message with this number.
 pub(crate) fn message_of<C: Code>(heap: Global, code: &C, v: usize) -> Result<Vec<u8>, Fail> {
-    let largest = u8::try_from(code.base().saturating_sub(1))?;
     let mut message = vec![in heap; 0u8; code.dimension()]?;
-    spell(v, largest, message.as_mut_slice());
+    spell(v, code.largest(), message.as_mut_slice());
     Ok(message)
 }
 
