@@ -33,6 +33,10 @@ impl<F: Field> Field for Counted<F> {
 
     ghost lawful = { λ c. F.lawful c.field };
 
+    fn family_number(&self) -> u8 {
+        self.field.family_number()
+    }
+
     fn size(&self) -> u16 {
         self.field.size()
     }

@@ -1,5 +1,5 @@
 -- Scores on the sheet of one word.
-use Rattle.std.proofs.Common.{◌≡◌, ℕ, zero, suc, ◌+◌, ◌<◌, ◌≤◌, true, false, cond, eqb, ltb, List, [], ◌∷◌, map, length, filter, zip, refl, ap, ◌∙◌, ap₂, ⊎_elim, arith}
+use Rattle.std.proofs.Common.{◌≡◌, ℕ, zero, suc, ◌+◌, ◌<◌, ◌≤◌, true, false, cond, eqb, ltb, min, List, [], ◌∷◌, map, length, drop, filter, refl, ap, ◌∙◌, ap₂, ⊎_elim, arith}
 use Rattle.std.proofs.lemmas.List.Sums.{sum_by-cons}
 use Rattle.std.proofs.lemmas.Bool.{and_parts, eq-eqb, ne_eqb, ltb-true, cases_eq}
 use Rattle.sheet.specs.Letters.{tally, size, weight}
@@ -47,11 +47,11 @@ hits_points f g (i ∷ ps) =
     elim (eqb (g i) (f i)) as (λ b. cond b 1 0 + hits (clean (map f ps)) (map g ps) ≡ length (cond b (i ∷ filter (λ i. eqb (g i) (f i)) ps) (filter (λ i. eqb (g i) (f i)) ps)))
     [ true ↦ omega arith | false ↦ omega arith ]
 
--- the score counts the pairs of a place's letters and the word's letter there, where it stands
-pub hits_are_pairs : (ms : List Marks) (w : List ℕ) → hits (map stands ms) w ≡ length (filter (λ p. stands p.0 p.1) (zip ms w))
-hits_are_pairs [] w = refl
-hits_are_pairs (m ∷ ms) [] = refl
-hits_are_pairs (m ∷ ms) (l ∷ w) =
-    let h = hits_are_pairs ms w in
-    elim (stands m l) as (λ b. cond b 1 0 + hits (map stands ms) w ≡ length (cond b ((m, l) ∷ filter (λ p. stands p.0 p.1) (zip ms w)) (filter (λ p. stands p.0 p.1) (zip ms w))))
-    [ true ↦ omega arith | false ↦ omega arith ]
+-- past the end of either there is no score
+pub hits_past : (ms : List Marks) (w : List ℕ) (i : ℕ) → min (length ms) (length w) ≤ i → hits (map stands (drop i ms)) (drop i w) ≡ 0
+hits_past [] w zero h = refl
+hits_past [] w (suc i) h = refl
+hits_past (m ∷ ms) [] zero h = refl
+hits_past (m ∷ ms) (l ∷ w) zero h = absurd (omega arith)
+hits_past (m ∷ ms) [] (suc i) h = elim (drop i ms) as (λ d. hits (map stands d) [] ≡ 0) [ [] ↦ refl | n ∷ ns ↦ refl ]
+hits_past (m ∷ ms) (l ∷ w) (suc i) h = hits_past ms w i (omega arith)

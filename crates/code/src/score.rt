@@ -5,13 +5,16 @@ ghost use Rattle.code.specs.Score.{hits};
 
 use sheet::Marks;
 
-// How many places of the sheet hold the word's letter.
+// How many places of the sheet hold the word's letter. Cut to the shorter first: a zip of unequal slices tests both ends at each place.
 pub fn hits(sheet: &[Marks], word: &[u8]) -> usize
     ensures { result ≡ hits (sheet_of sheet.now) word.now }
 {
-    sheet
-        .iter()
-        .zip(word)
-        .filter(|(marks, letter)| marks.contains(**letter))
-        .count()
+    let mut score = 0;
+    let n = sheet.len().min(word.len());
+    for (marks, letter) in sheet[..n].iter().zip(&word[..n]) {
+        if marks.contains(*letter) {
+            score += 1;
+        }
+    }
+    score
 }

@@ -27,6 +27,10 @@ pub trait Code {
 
     ghost family: { (c : Self) → (means c).family ≡ FAMILY };
 
+    // The number of the family, for a caller that holds a code and does not name its type.
+    fn family_number(&self) -> u8
+        ensures { result ≡ (means self.now).family };
+
     // How many letters there are, and how many of them a word has.
     fn letters(&self) -> usize
         ensures { result ≡ (means self.now).q };

@@ -1,5 +1,5 @@
 // A concatenated code is a code.
-ghost use Rattle.std.specs.Prelude.{◌≡◌, length, replicate};
+ghost use Rattle.std.specs.Prelude.{◌≡◌, length};
 ghost use Rattle.sheet.specs.Standing.{sheet_of};
 ghost use Rattle.code.specs.Answers.{listed, shown};
 ghost use Rattle.concatenated.specs.Values.{meaning_of};
@@ -16,7 +16,6 @@ use sheet::Marks;
 impl<O: Code, I: Code> Concatenated<O, I> {
     // The list on a sheet of the code, at an agreement in range: the blocks from the first, then the outer code.
     fn recover(&self, sheet: &[Marks], t: usize, buf: &mut [u8]) -> Result<usize, Fault>
-        requires zeros { buf.old ≡ replicate (length buf.old) 0 }
         requires asked { InRange (O.means self.now.outer) (I.means self.now.inner) self.now.agreement (sheet_of sheet.now) t }
         ensures answer { result ≡ listed (meaning_of self.now) (sheet_of sheet.now) t (length buf.old) }
         ensures buffer { buf.new ≡ shown (meaning_of self.now) (sheet_of sheet.now) t (length buf.old) }
@@ -24,7 +23,10 @@ impl<O: Code, I: Code> Concatenated<O, I> {
         let blank = Marks::new();
         let mut table = [blank; MAX_PLACES];
         let above = &mut table[0..self.outer.places()];
-        self.lift_blocks(sheet, above)?;
+        if let Err(reach) = self.lift_blocks(sheet, above) {
+            buf.fill(0);
+            return Err(Fault::Reach(reach));
+        }
         match self.outer.list(above, t, buf) {
             Ok(count) => Ok(count),
             // In a match of its own: of what a pattern inside a pattern leaves over, a proof is not told that it is no Reach; and the
@@ -47,6 +49,10 @@ impl<O: Code, I: Code> Code for Concatenated<O, I> {
     ghost family = { λ c. I.family c.inner };
 
     ghost lawful = { λ c. concatenated_lawful _ _ c.agreement (O.lawful c.outer) (I.lawful c.inner) c.joined };
+
+    fn family_number(&self) -> u8 {
+        self.inner.family_number()
+    }
 
     fn letters(&self) -> usize {
         self.inner.letters()
@@ -84,8 +90,11 @@ impl<O: Code, I: Code> Code for Concatenated<O, I> {
     }
 
     fn list(&self, sheet: &[Marks], t: usize, buf: &mut [u8]) -> Result<usize, Fault> {
-        buf.fill(0);
-        self.check_list(sheet, t)?;
+        // The buffer is filled here only for a refusal, since the outer list fills it too.
+        if let Err(fault) = self.check_list(sheet, t) {
+            buf.fill(0);
+            return Err(fault);
+        }
         self.recover(sheet, t, buf)
     }
 }

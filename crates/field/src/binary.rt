@@ -73,6 +73,10 @@ impl Field for BinaryField {
 
     ghost lawful = { λ f. binary_laws f.m f.listed };
 
+    fn family_number(&self) -> u8 {
+        Self::FAMILY
+    }
+
     fn size(&self) -> u16 {
         1 << self.m
     }

@@ -38,6 +38,10 @@ impl Field for PrimeField {
 
     ghost lawful = { λ f. prime_laws f.p f.listed };
 
+    fn family_number(&self) -> u8 {
+        Self::FAMILY
+    }
+
     fn size(&self) -> u16 {
         self.p as u16
     }

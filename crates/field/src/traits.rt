@@ -12,6 +12,10 @@ pub trait Field {
 
     ghost family: { (f : Self) → (means f).family ≡ FAMILY };
 
+    // The family's number, for a caller that holds a field and does not name its type.
+    fn family_number(&self) -> u8
+        ensures { result ≡ (means self.now).family };
+
     // How many elements there are.
     fn size(&self) -> u16
         ensures { result ≡ (means self.now).size };

@@ -21,6 +21,10 @@ impl<F: Field> Code for Generator<F> {
 
     ghost lawful = { λ c. generator_lawful _ (ring_of _ (F.lawful c.field)) c.table c.n c.k c.kept };
 
+    fn family_number(&self) -> u8 {
+        self.field.family_number()
+    }
+
     fn letters(&self) -> usize {
         self.field.size() as usize
     }

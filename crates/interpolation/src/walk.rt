@@ -12,7 +12,7 @@ ghost use Rattle.interpolation.specs.Steps.{Light, Lowered, FootOf, Moved};
 ghost use Rattle.interpolation.specs.Recovered.{passes, recovered};
 ghost use Rattle.interpolation.specs.Walk.{depths, cells_at, chosen, extended, Descent, Adds};
 
-use crate::curve::{Bound, Curve};
+use crate::curve::{Bound, CELLS, Curve};
 use crate::pairs::Pair;
 use crate::plan::MAX_COEFFICIENTS;
 use crate::region::Region;
@@ -163,10 +163,13 @@ impl<F: Field> Search<'_, F> {
             weight: bound.weight,
             height: bound.height(),
         };
+        // Blank at first: a table of copies of the curve would stand in the frame once more before it stands in the trail.
+        let blank = Curve { cells: [0; CELLS] };
         let mut trail = Trail {
-            curves: [*curve; MAX_COEFFICIENTS],
+            curves: [blank; MAX_COEFFICIENTS],
             prefix: [0; MAX_COEFFICIENTS],
         };
+        trail.curves[0] = *curve;
         buf.fill(0);
         let Some(used) = self.descend(region, 0, &mut trail, buf, 0) else {
             buf.fill(0);

@@ -23,6 +23,10 @@ impl<F: Field> Code for ReedSolomon<F> {
 
     ghost lawful = { λ c. lawful_at_limits _ (F.lawful c.field) c.n c.k c.kept };
 
+    fn family_number(&self) -> u8 {
+        self.field.family_number()
+    }
+
     fn letters(&self) -> usize {
         self.field.size() as usize
     }
@@ -60,8 +64,11 @@ impl<F: Field> Code for ReedSolomon<F> {
         ensures buffer { buf.new ≡ shown (meaning_of self.now) (sheet_of sheet.now) t (length buf.old) }
         ensures few { Few result }
     {
-        buf.fill(0);
-        self.check_list(sheet, t)?;
+        // The buffer is filled here only for a refusal, since the walk fills it too.
+        if let Err(fault) = self.check_list(sheet, t) {
+            buf.fill(0);
+            return Err(fault);
+        }
         self.recover(sheet, t, buf)
     }
 }

@@ -1,13 +1,13 @@
-use Rattle.std.proofs.Common.{rules, tests, ◌∙◌, sym}
-use Rattle.std.proofs.lemmas.Iterator.{YieldsList-from_slice, YieldsList-from_zip}
-use Rattle.std.proofs.lemmas.Iterator.Consumers.{YieldsList-from_filter, count_from_yields_List}
-use Rattle.sheet.specs.Standing.{stands}
-use Rattle.code.proofs.Scores.{hits_are_pairs}
+use Rattle.std.proofs.Common.{length, take, arith, length-take-le}
+use Rattle.std.proofs.lemmas.Slice.Zip.{zip_end}
+use Rattle.code.proofs.Scores.{hits_past}
 use Rattle.code.proofs.score.hits.Goals as goal
 
 pub returns : goal.returns
 returns c =
-    count_from_yields_List c.filter.result _ c.count.ensures.ran
-    (YieldsList-from_filter _ (λ p. stands p.0 p.1)
-    (YieldsList-from_zip (YieldsList-from_slice c.args.sheet.now cc) (YieldsList-from_slice c.args.word.now cc)) c.filter.ensures.closure (λ x b q k. search (rules, tests)))
-    ∙ sym (hits_are_pairs c.args.sheet.now c.args.word.now)
+    let n = c.min-n.result in
+    let sheet = length-take-le n c.args.sheet.now (omega (arith, c.min-n.ensures)) in
+    let word = length-take-le n c.args.word.now (omega (arith, c.min-n.ensures)) in
+    let turns = zip_end (take n c.args.sheet.now) (take n c.args.word.now) c.loop-marks.yielded _ _ c.next.new.self _ (cc) (cc) c.loop-marks.yielded_by c.in-None.is c.next.ensures.steps in
+    let past = hits_past c.args.sheet.now c.args.word.now (length c.loop-marks.yielded) (omega (arith, turns, sheet, word, c.min-n.ensures)) in
+    omega (arith, c.loop-marks.invariant.0, past)

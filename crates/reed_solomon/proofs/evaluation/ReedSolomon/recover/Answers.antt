@@ -17,16 +17,16 @@ offer_sheet-requires g c =
     subst (λ z. z ≤ 256) (length-map c.args.sheet.now stands)
     (short (g.F.Field.means c.args.self.now.field) (g.met.F.Field.lawful c.args.self.now.field) c.args.self.now.n c.args.self.now.k c.args.self.now.kept (sheet_of c.args.sheet.now) c.args.t c.requires.whole)
 
-pub returns : goal.returns
-returns g c =
+pub returns-in-Ok : goal.returns-in-Ok
+returns-in-Ok g c =
     let F = g.F.Field.means c.args.self.now.field in
     let L = g.met.F.Field.lawful c.args.self.now.field in
     let n = c.args.self.now.n in
     let k = c.args.self.now.k in
     let s = sheet_of c.args.sheet.now in
-    let o = c.in_ok-plan.ensures in
+    let o = c.in-Ok.ensures in
     let load : c.load.result ≡ _ = load_is F L n k c.args.self.now.kept s c.args.t c.requires.whole c.load.result c.load.ensures in
-    let plan : c.close.result.plan ≡ c.in_ok-plan.plan = c.close.ensures.plan ∙ c.offer_sheet.ensures.plan ∙ c.new-fitting.ensures.plan in
+    let plan : c.close.result.plan ≡ c.in-Ok.plan = c.close.ensures.plan ∙ c.offer_sheet.ensures.plan ∙ c.new-fitting.ensures.plan in
     let field : c.close.result.field.now ≡ c.args.self.now.field = c.close.ensures.field ∙ c.offer_sheet.ensures.field ∙ c.new-fitting.ensures.field in
     let limit : c.new-fitting.result.plan.limit ≡ _ = ap (λ (p : Plan). p.limit) c.new-fitting.ensures.plan ∙ o.3 ∙ load in
     let held : ◌≡◌ {A = List ℕ × List ℕ} (points_of c.close.result.pairs, values_of c.close.result.pairs) _ =
@@ -39,7 +39,7 @@ returns g c =
     let list =
     list_same F L n k c.args.self.now.kept s c.args.t c.requires.whole (g.F.Field.means c.close.result.field.now) c.close.result.plan.k c.close.result.plan.t (points_of c.close.result.pairs) (values_of c.close.result.pairs)
     (ap g.F.Field.means field) (ap (λ (p : Plan). p.k) plan ∙ o.1) (ap (λ (p : Plan). p.t) plan ∙ o.2) held in
-    let in_reach = opens_in_reach F L n k c.args.self.now.kept s c.args.t c.requires.whole c.requires.low c.requires.high c.load.result c.in_ok-plan.plan.r load o.0 in
+    let in_reach = opens_in_reach F L n k c.args.self.now.kept s c.args.t c.requires.whole c.requires.low c.requires.high c.load.result c.in-Ok.plan.r load o.0 in
     record {
       answer =
           c.walk.ensures.answer
@@ -48,13 +48,14 @@ returns g c =
       buffer = c.walk.ensures.buffer ∙ ap (λ l. laid (length c.args.buf.now) l c.walk.result) list;
     }
 
-pub returns-in_err-plan-clause-answer : goal.returns-in_err-plan-clause-answer
-returns-in_err-plan-clause-answer g c =
+pub returns-in-Err : goal.returns-in-Err
+returns-in-Err g c =
     let F = g.F.Field.means c.args.self.now.field in
     let L = g.met.F.Field.lawful c.args.self.now.field in
-    let n = c.args.self.now.n in
-    let k = c.args.self.now.k in
     let s = sheet_of c.args.sheet.now in
-    let refused = refused_out_of_reach F L n k c.args.self.now.kept s c.args.t c.requires.whole c.requires.low c.requires.high c.load.result (length c.args.buf.now) c.in_err-plan.field-0.0
-    (load_is F L n k c.args.self.now.kept s c.args.t c.requires.whole c.load.result c.load.ensures) c.in_err-plan.ensures in
-    search (rules, refused)
+    record {
+      answer =
+          refused_out_of_reach F L c.args.self.now.n c.args.self.now.k c.args.self.now.kept s c.args.t c.requires.whole c.requires.low c.requires.high c.load.result (length c.args.buf.now) c.in-Err.fault
+          (load_is F L c.args.self.now.n c.args.self.now.k c.args.self.now.kept s c.args.t c.requires.whole c.load.result c.load.ensures) c.in-Err.ensures;
+      buffer = search rules;
+    }

@@ -6,14 +6,14 @@ use Rattle.reed_solomon.specs.Few.{Few}
 use Rattle.reed_solomon.proofs.Few.{reached_few}
 use Rattle.reed_solomon.proofs.listing.ReedSolomonCode.list.Goals as goal
 
-pub returns-in_err-check_list-clause-buffer : goal.returns-in_err-check_list-clause-buffer
-returns-in_err-check_list-clause-buffer g c =
-    let zeros = admitted_err (meaning_of c.args.self.now) (sheet_of c.args.sheet.now) c.args.t (length c.args.buf.now) _ (sym c.in_err-check_list.ensures) in
+pub returns-in-Err-clause-buffer : goal.returns-in-Err-clause-buffer
+returns-in-Err-clause-buffer g c =
+    let zeros = admitted_err (meaning_of c.args.self.now) (sheet_of c.args.sheet.now) c.args.t (length c.args.buf.now) _ (sym c.in-Err.ensures) in
     search (rules, zeros)
 
 pub returns-clause-few : goal.returns-clause-few
 returns-clause-few g c =
-    let admitted = admitted_parts (meaning_of c.args.self.now) (sheet_of c.args.sheet.now) c.args.t (sym c.in_ok-check_list.ensures) in
+    let admitted = admitted_parts (meaning_of c.args.self.now) (sheet_of c.args.sheet.now) c.args.t (sym c.in_default.ensures) in
     subst Few (sym c.recover.ensures.answer)
-    (reached_few (g.F.Field.means c.args.self.now.field) (g.met.F.Field.lawful c.args.self.now.field) c.args.self.now.n c.args.self.now.k c.args.self.now.kept (sheet_of c.args.sheet.now) c.args.t (length c.fill.new.self)
+    (reached_few (g.F.Field.means c.args.self.now.field) (g.met.F.Field.lawful c.args.self.now.field) c.args.self.now.n c.args.self.now.k c.args.self.now.kept (sheet_of c.args.sheet.now) c.args.t (length c.args.buf.now)
     admitted.0 admitted.1)
